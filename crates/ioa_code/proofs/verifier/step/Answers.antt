@@ -36,7 +36,7 @@ on c =
 -- the test of its exits
 forward : (c : After-are_forward) (b : Bool) → c.are_forward.result ≡ b → all_forward (length c.args.code.now.instrs.items) c.args.place (map (λ e. e.to) (listed c.in-Ok.exits)) ≡ b
 forward c b is =
-    let end : c.len.result ≡ length c.args.code.now.instrs.items = omega (arith, c.args.code.now.instrs.ok.0) in
+    let end : c.len.result ≡ length c.args.code.now.instrs.items = c.len.ensures ∙ c.args.code.now.instrs.ok.0 in
     ap (λ n. all_forward n c.args.place (map (λ e. e.to) (listed c.in-Ok.exits))) (sym end) ∙ sym c.are_forward.ensures ∙ is
 
 pub are_closed-requires-clause-reached : goal.are_closed-requires-clause-reached
