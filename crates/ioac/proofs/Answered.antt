@@ -17,19 +17,10 @@ pub both_err : {A E : Type 0} (P Q : E → Type 0) (r : Result A E) → IfErr r 
 both_err P Q (Ok x) p q = tt
 both_err P Q (Err e) p q = (p, q)
 
--- what follows of what a call passed, or of why it failed
-pub if_ok : {A E : Type 0} (P Q : A → Type 0) (r : Result A E) → ((x : A) → P x → Q x) → IfOk r P → IfOk r Q
-if_ok P Q (Ok x) f p = f x p
-if_ok P Q (Err e) f p = tt
-
+-- what follows of why a call failed
 pub if_err : {A E : Type 0} (P Q : E → Type 0) (r : Result A E) → ((e : E) → P e → Q e) → IfErr r P → IfErr r Q
 if_err P Q (Ok x) f p = tt
 if_err P Q (Err e) f p = f e p
-
--- what follows of what a call found
-pub if_some : {A : Type 0} (P Q : A → Type 0) (o : Option A) → ((x : A) → P x → Q x) → IfSome o P → IfSome o Q
-if_some P Q None f p = tt
-if_some P Q (Some x) f p = f x p
 
 -- one of both is so, with what there is to tell of workers
 pub answered : (r : Result Served Failure) (of : List ℕ → Type 0) (served finished : Option (List ℕ) → List ℕ → Status → Type 0) (unserved reported : List ℕ → Failure → Type 0)

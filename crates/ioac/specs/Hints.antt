@@ -12,6 +12,7 @@ use Rattle.ioa_tree.specs.Runs.{Ending, done, not_an_action_at, not_enabled_at, 
 use Rattle.ioa_tree.specs.declared.tree.Constant.{Constant}
 use Rattle.ioa_tree.specs.declared.tree.Entry.{Entry}
 use Rattle.ioa_tree.specs.declared.tree.Position.{Position}
+use Rattle.ioa_causes.specs.Entries.{named}
 use Rattle.ioa_compose.specs.declared.member.Member.{Member}
 use Rattle.ioa_system.specs.Outcomes.{ending_of}
 use Rattle.ioa_account.specs.declared.ends.Account.{Account}
@@ -61,9 +62,6 @@ abbrev pub entry_text : Entry → List ℕ
 entry_text e = string_bytes e.name.text ++ (positions_text e.positions.items ++ closing_text e.positions.items)
 
 -- ---- the components that have one of this name
-
-abbrev pub named : Name → List Entry → Option Entry
-named x es = find (λ (e : Entry). bytes_eq (string_bytes e.name.text) x) es
 
 -- a component with one of its entries, on a line
 abbrev pub entry_line : Name → Entry → List ℕ

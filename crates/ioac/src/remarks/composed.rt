@@ -7,14 +7,13 @@ ghost use Rattle.ioa_serving.specs.FailureCodes.{failure_code};
 ghost use Rattle.ioac.specs.Places as places;
 ghost use Rattle.ioac.specs.Refused.{MayTellFile, MayTellLine};
 
-use crate::remarks::composing;
 use crate::remarks::ended::loaded;
 use crate::remarks::heads::{put_flat, put_jump};
 use crate::remarks::heard::program_in;
 use crate::remarks::places::{file_of, source_of};
 use crate::remarks::sources::{assembly_in, checked_in, picked};
 use crate::remarks::unseen::{Unseen, line_of_unseen, unseen_in, unseen_words};
-use crate::remarks::wordings::wording;
+use ioa_causes::{composing, wording};
 use ioa_request::{Code, Request};
 use ioa_serving::{Failure, Store, is_object};
 use ioa_value::OutOfMemory;

@@ -1,10 +1,10 @@
 //! Entries of components, as their automata declare them.
 
 ghost use Rattle.std.specs.Prelude.{◌≡◌, ◌++◌, OnOk};
-ghost use Rattle.std.specs.Option.{option_map};
 ghost use Rattle.std.specs.String.{string_bytes};
 ghost use Rattle.ioac.specs.Hints as spec;
 
+use ioa_causes::entry_named;
 use ioa_compose::Member;
 use ioa_tree::{Constant, Entry, Position};
 use ioa_value::OutOfMemory;
@@ -39,18 +39,6 @@ fn put_like_line(text: &mut String, member: &Member, name: &str) -> Result<(), O
         Some(entry) => put_entry_of(text, member.name.as_str(), entry),
         None => Ok(()),
     }
-}
-
-/// The first of the entries that has this name.
-pub fn entry_named<'a>(entries: &'a [Entry], name: &str) -> Option<&'a Entry>
-    ensures { option_map (λ e. e.now) result ≡ spec.named name.now entries.now }
-{
-    for entry in entries {
-        if entry.name.is(name) {
-            return Some(entry);
-        }
-    }
-    None
 }
 
 /// Puts a component with one of its entries on a line.

@@ -4,8 +4,8 @@ ghost use Rattle.std.specs.Prelude.{◌≡◌, ◌+◌, false, IfOk, IfSome};
 ghost use Rattle.ioac.specs.Hints.{IsUnknown};
 ghost use Rattle.ioac.specs.Refused.{IsBehindEnd};
 
-use crate::remarks::composing::kind_words;
 use ioa_account::line_at;
+use ioa_causes::composing::kind_words;
 use ioa_compile::Program;
 use ioa_log::{LogErr, begun_log};
 use ioa_object::ObjErr;

@@ -9,9 +9,9 @@ ghost use Rattle.ioac.specs.Hints.{HintsAt, TellsHint};
 
 use crate::remarks::ended::{composed, loaded};
 use crate::remarks::entries::{names_of, put_like};
-use crate::remarks::nearest::nearest;
 use crate::remarks::places::source_of;
 use ioa_account::{Told, account_of};
+use ioa_causes::nearest::nearest;
 use ioa_compile::compile;
 use ioa_compose::{Composition, Member};
 use ioa_log::begun_log;

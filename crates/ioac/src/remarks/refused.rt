@@ -19,9 +19,9 @@ use crate::remarks::hints::hint_of_log;
 use crate::remarks::places::{
     Place, file_of, input_name, inputs_of, place_of, resume_of, source_of, words_of,
 };
-use crate::remarks::wordings::wording;
 use crate::remarks::{composed, ended, heard, warned, words};
 use ioa_account::line_of_action;
+use ioa_causes::wording;
 use ioa_compile::Program;
 use ioa_log::LogErr;
 use ioa_request::explanations::explanation;

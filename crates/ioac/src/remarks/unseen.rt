@@ -4,7 +4,7 @@ ghost use Rattle.std.specs.Prelude.{◌≡◌, IfOk, IfSome, MatchOption, None, 
 ghost use Rattle.std.specs.String.{string_bytes};
 ghost use Rattle.ioac.specs.Unseen as spec;
 
-use crate::remarks::entries::entry_named;
+use ioa_causes::entry_named;
 use ioa_compile::{Entry, Member, Program};
 use ioa_rules::automaton_named;
 use ioa_tree::{Assembly, Declaration, Kind};

@@ -4,7 +4,8 @@ use Rattle.ioa_serving.specs.declared.served.Served.{Served}
 use Rattle.ioa_serving.specs.Devices.{Passed, change, seen, onward, until}
 use Rattle.ioac.specs.Commands.{IsFollowed, IsServedRemark, IsUnservedRemark}
 use Rattle.ioac.specs.Telling.{IsPut}
-use Rattle.ioac.proofs.Answered.{any_err, any_ok, followed, if_err, if_ok, told_through}
+use Rattle.ioa_causes.proofs.Found.{if_ok}
+use Rattle.ioac.proofs.Answered.{any_err, any_ok, followed, if_err, told_through}
 use Rattle.ioac.proofs.command.answer_and_explain.Goals as goal
 
 pub returns-then-failures-clause-answers : goal.returns-then-failures-clause-answers

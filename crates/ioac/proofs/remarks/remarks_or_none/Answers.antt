@@ -1,7 +1,8 @@
 use Rattle.std.proofs.Common.{inr}
 use Rattle.std.specs.Prelude.{unwrap_or}
 use Rattle.ioac.specs.Remarks.{log_of_run}
-use Rattle.ioac.proofs.Answered.{if_err, if_ok}
+use Rattle.ioa_causes.proofs.Found.{if_ok}
+use Rattle.ioac.proofs.Answered.{if_err}
 use Rattle.ioac.proofs.remarks.remarks_or_none.Goals as goal
 
 pub returns-in-Ok-clause-served : goal.returns-in-Ok-clause-served

@@ -1,5 +1,5 @@
 use Rattle.ioac.specs.Unseen.{HasInternal, IsInternal}
-use Rattle.ioac.proofs.Answered.{if_some}
+use Rattle.ioa_causes.proofs.Found.{if_some}
 use Rattle.ioac.proofs.remarks.unseen.internal_of.Goals as goal
 
 -- it is the first component's that has one

@@ -1,0 +1,4 @@
+pub mod Entries
+pub mod Typing
+pub mod Words
+pub mod Worded

@@ -1,5 +1,0 @@
-use Rattle.std.proofs.Common.{inr}
-use Rattle.ioac.proofs.remarks.signatures.transition_words.Goals as goal
-
-pub returns-in_ok-signed_words-in-Some : goal.returns-in_ok-signed_words-in-Some
-returns-in_ok-signed_words-in-Some c = inr (c.in-Some.entry.now, c.in-Some.ensures, c.in_ok-signed_words-in-Some.ensures)

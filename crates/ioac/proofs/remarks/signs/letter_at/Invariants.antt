@@ -1,5 +1,0 @@
-use Rattle.ioac.proofs.remarks.signs.letter_at.Given as goal
-
--- nothing is kept
-abbrev pub invariant-loop-size : goal.invariant-loop-size
-invariant-loop-size l = Unit {0}
