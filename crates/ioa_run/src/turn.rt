@@ -17,7 +17,7 @@ use ioa_value::{Action, OutOfMemory};
 use std::alloc::Global;
 
 /// What a turn leaves of its worker.
-#[derive(Clone, Copy, Debug, PartialEq, Eq)]
+#[derive(Clone, Copy)]
 pub(crate) enum TurnEnd {
     /// It takes more turns, if it has some.
     GoesOn,
