@@ -1,7 +1,7 @@
 //! The command line, its subcommands with their arguments, and the requests that they make.
 
-ghost use Rattle.std.specs.Prelude.{◌≡◌, false, map, codes, IfOk};
-ghost use Rattle.clap.specs.Words.{FailsBy, app_of, fault_of, new_app, rule_of, subcommand_of, subcommand_rows_of};
+ghost use Rattle.std.specs.Prelude.{◌≡◌, false, map, codes, IfOk, IsOkAnd};
+ghost use Rattle.clap.specs.Words.{FailsBy, app_of, fault_of, new_app, rule_of, shape_of, subcommand_of, subcommand_rows_of, with_subcommand};
 ghost use Rattle.ioa_request.specs.CommandLine.{IsLocal, chart_app, check_app, comp_rule, compile_app, compositions_rule, dump_app, explain_app, explain_rule, file_rule, graph_app, invariants_rule, ioac_app, library_app, log_app, log_rule, monitor_app, out_rule, replay_app, states_rule, text_rule};
 
 use crate::run_usage::run_command;
@@ -389,25 +389,35 @@ fn graph_command<'a>(alloc: Global) -> Result<Command<'a>, AllocError>
         .arg(explain_flag(alloc))
 }
 
+/// The command with a subcommand, where there was memory to make that. So `program` holds no command where memory may end.
+fn with<'a>(
+    command: Command<'a>,
+    subcommand: Result<Command<'a>, AllocError>,
+) -> Result<Command<'a>, AllocError>
+    ensures { IfOk result (λ made. IsOkAnd subcommand.entry (λ added. IsLocal added → app_of made ≡ with_subcommand (app_of command.entry) (shape_of added))) }
+{
+    command.subcommand(subcommand?)
+}
+
 fn program<'a>(alloc: Global) -> Result<Command<'a>, AllocError>
     ensures { IfOk result (λ command. app_of command ≡ ioac_app) }
 {
-    Command::new(alloc, "ioac")
+    let command = Command::new(alloc, "ioac")
         .about("Compiles I/O automata, runs them, and replays lists of their actions")
         .version(VERSION)
         .subcommand_required(true)
-        .arg_required_else_help(true)
-        .subcommand(check_command(alloc)?)?
-        .subcommand(compile_command(alloc)?)?
-        .subcommand(dump_command(alloc)?)?
-        .subcommand(replay_command(alloc)?)?
-        .subcommand(log_command(alloc)?)?
-        .subcommand(run_command(alloc)?)?
-        .subcommand(monitor_command(alloc)?)?
-        .subcommand(chart_command(alloc)?)?
-        .subcommand(graph_command(alloc)?)?
-        .subcommand(explain_command(alloc)?)?
-        .subcommand(library_command(alloc)?)
+        .arg_required_else_help(true);
+    let command = with(command, check_command(alloc))?;
+    let command = with(command, compile_command(alloc))?;
+    let command = with(command, dump_command(alloc))?;
+    let command = with(command, replay_command(alloc))?;
+    let command = with(command, log_command(alloc))?;
+    let command = with(command, run_command(alloc))?;
+    let command = with(command, monitor_command(alloc))?;
+    let command = with(command, chart_command(alloc))?;
+    let command = with(command, graph_command(alloc))?;
+    let command = with(command, explain_command(alloc))?;
+    with(command, library_command(alloc))
 }
 
 /// Reads a command line, whose first word is the program's.

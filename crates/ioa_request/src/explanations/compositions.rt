@@ -4,7 +4,7 @@ use crate::code::Code;
 use crate::explanation::{Example, Explanation};
 use crate::topic::Topic;
 
-pub const E12: Explanation = Explanation {
+pub static E12: Explanation = Explanation {
     topic: Topic::Code(Code::E12),
     meaning: "The arguments of a component are not those of its automaton's formals, in number or type. Components count\n\
         from 0.",
@@ -18,7 +18,7 @@ pub const E12: Explanation = Explanation {
     mending: "Give one value for each formal, of its type and in order. In this example: `A: Counter(5)`.",
 };
 
-pub const E13: Explanation = Explanation {
+pub static E13: Explanation = Explanation {
     topic: Topic::Code(Code::E13),
     meaning: "A component crashes and recovers by one name, or one of the two is the name of an entry of its automaton.\n\
         Components count from 0.",
@@ -33,7 +33,7 @@ pub const E13: Explanation = Explanation {
         Another component may have them, so two hosts may crash together.",
 };
 
-pub const E14: Explanation = Explanation {
+pub static E14: Explanation = Explanation {
     topic: Topic::Code(Code::E14),
     meaning: "Two components are not compatible: both have one output, or one has an action as internal that the other has\n\
         too.",
@@ -47,7 +47,7 @@ pub const E14: Explanation = Explanation {
         constant, or make an output an input of the other component. In this example: one Door is enough.",
 };
 
-pub const E15: Explanation = Explanation {
+pub static E15: Explanation = Explanation {
     topic: Topic::Code(Code::E15),
     meaning: "A hidden name is the name of no component's output: inputs cannot be hidden, and internal actions are not seen\n\
         anyway.",
@@ -61,7 +61,7 @@ pub const E15: Explanation = Explanation {
     mending: "Hide names of outputs alone. In this example: `hidden ring`.",
 };
 
-pub const E16: Explanation = Explanation {
+pub static E16: Explanation = Explanation {
     topic: Topic::Code(Code::E16),
     meaning: "A component cannot start: one of its arguments, or a start expression, faults. Components count from 0. Fault 1\n\
         is a number that does not fit into 64 bits.",
@@ -75,7 +75,7 @@ pub const E16: Explanation = Explanation {
     mending: "Give other arguments, or write another start expression. In this example: any smaller number will do.",
 };
 
-pub const E17: Explanation = Explanation {
+pub static E17: Explanation = Explanation {
     topic: Topic::Code(Code::E17),
     meaning: "The source has no composition of the name that was asked for, or none at all, so there is nothing to run.",
     example: Example::Source(

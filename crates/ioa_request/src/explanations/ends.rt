@@ -3,7 +3,7 @@
 use crate::explanation::{Example, Explanation};
 use crate::topic::Topic;
 
-pub const DONE: Explanation = Explanation {
+pub static DONE: Explanation = Explanation {
     topic: Topic::Done,
     meaning: "All actions of the list or the log were performed: their number stands behind `after`. Of a run it is what was\n\
         performed until each worker had had its turns.",
@@ -17,7 +17,7 @@ pub const DONE: Explanation = Explanation {
     mending: "There is nothing to mend.",
 };
 
-pub const NOT_AN_ACTION: Explanation = Explanation {
+pub static NOT_AN_ACTION: Explanation = Explanation {
     topic: Topic::NotAnAction,
     meaning: "No component of the composition has this action: none has an entry of its name with as many positions, whose types\n\
         and constants its values fit. Its number in the list, from 0, stands behind `at`; what came before it was performed.",
@@ -34,7 +34,7 @@ pub const NOT_AN_ACTION: Explanation = Explanation {
         it is `tick(1)`.",
 };
 
-pub const NOT_ENABLED: Explanation = Explanation {
+pub static NOT_ENABLED: Explanation = Explanation {
     topic: Topic::NotEnabled,
     meaning: "The precondition of the component whose output or internal action this is, is false in the state to which the\n\
         actions before it lead, or that component is down. Its number in the list, from 0, stands behind `at`; what came\n\
@@ -52,7 +52,7 @@ pub const NOT_ENABLED: Explanation = Explanation {
         is enabled.",
 };
 
-pub const BROKEN: Explanation = Explanation {
+pub static BROKEN: Explanation = Explanation {
     topic: Topic::Broken,
     meaning: "`invariant V of component C broken after N`: in the state after N actions of the log, the source's invariant of\n\
         number V, from 0, is false of component C, or its condition faults. It is the first one, by state, then by component,\n\
@@ -71,7 +71,7 @@ pub const BROKEN: Explanation = Explanation {
     mending: "Replay the log's first N actions, and see what the last of them does. Mend the transitions, or the invariant.",
 };
 
-pub const FINE: Explanation = Explanation {
+pub static FINE: Explanation = Explanation {
     topic: Topic::Fine,
     meaning: "A check or a compilation has nothing to object to. Of a monitor, `monitor: ok` says that the specification accepts\n\
         each of its actions in the log.",

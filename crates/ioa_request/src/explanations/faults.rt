@@ -4,7 +4,7 @@ use crate::explanation::{Example, Explanation};
 use crate::topic::Topic;
 use ioa_arithmetic::Fault;
 
-pub const OVERFLOW: Explanation = Explanation {
+pub static OVERFLOW: Explanation = Explanation {
     topic: Topic::Fault(Fault::Overflow),
     meaning: "The result of `+`, `-`, `*` or `div` is no number of 64 bits. Where a precondition or an effect faults, the run\n\
         ends before this action, and nothing of it is done.",
@@ -19,7 +19,7 @@ pub const OVERFLOW: Explanation = Explanation {
     mending: "Say in the precondition up to where it counts, as `pre c < 100`, or begin again at 0.",
 };
 
-pub const ZERO_DIVISOR: Explanation = Explanation {
+pub static ZERO_DIVISOR: Explanation = Explanation {
     topic: Topic::Fault(Fault::ZeroDivisor),
     meaning: "The divisor of `div` or `mod` is 0. Where a precondition or an effect faults, the run ends before this action,\n\
         and nothing of it is done.",
@@ -34,7 +34,7 @@ pub const ZERO_DIVISOR: Explanation = Explanation {
     mending: "Ask before, as in `pre workers > 0`. In this example: `workers` has no start value, so it is 0: give it one.",
 };
 
-pub const EMPTY: Explanation = Explanation {
+pub static EMPTY: Explanation = Explanation {
     topic: Topic::Fault(Fault::Empty),
     meaning: "`head`, `last`, `tail` or `init` is asked of a sequence that is empty. Where a precondition or an effect faults,\n\
         the run ends before this action, and nothing of it is done.",
@@ -51,7 +51,7 @@ pub const EMPTY: Explanation = Explanation {
         its first part is false.",
 };
 
-pub const OUT_OF_RANGE: Explanation = Explanation {
+pub static OUT_OF_RANGE: Explanation = Explanation {
     topic: Topic::Fault(Fault::OutOfRange),
     meaning: "`at(s, i)` is asked for an item that the sequence does not have: its items are numbered from 0. Where a precondition\n\
         or an effect faults, the run ends before this action, and nothing of it is done.",
@@ -67,7 +67,7 @@ pub const OUT_OF_RANGE: Explanation = Explanation {
     mending: "Compare the index with the length before, as in `i < len(row)`. In this example: the one item is `at(row, 0)`.",
 };
 
-pub const FULL: Explanation = Explanation {
+pub static FULL: Explanation = Explanation {
     topic: Topic::Fault(Fault::Full),
     meaning: "`append` is asked of a sequence that has as many items as its type allows. Where a precondition or an effect faults,\n\
         the run ends before this action, and nothing of it is done.",

@@ -11,7 +11,7 @@ const COUNTER: &str = "automaton Counter\n\
     transitions output tick pre k = c propose k := c eff c := c + 1\n\
     composition One components A: Counter";
 
-pub const L1: Explanation = Explanation {
+pub static L1: Explanation = Explanation {
     topic: Topic::Code(Code::L1),
     meaning: "This line of the log is no JSON text, and the lines above it are entries. Each line of a log is one JSON object.",
     example: Example::ReplayLog {
@@ -24,7 +24,7 @@ pub const L1: Explanation = Explanation {
         without `--log`.",
 };
 
-pub const L3: Explanation = Explanation {
+pub static L3: Explanation = Explanation {
     topic: Topic::Code(Code::L3),
     meaning: "This line of the log has another worker than its action. The worker of an action is the number of the component that\n\
         owns it; of an input of the composition, the number of components. Components count from 0.",
@@ -36,7 +36,7 @@ pub const L3: Explanation = Explanation {
     mending: "Give the log to the composition that it is of, or mend the number. In this example: `\"who\":0`.",
 };
 
-pub const L4: Explanation = Explanation {
+pub static L4: Explanation = Explanation {
     topic: Topic::Code(Code::L4),
     meaning: "This line of the log is the first that is not as the composition does it: its action is none of the composition's, is not\n\
         enabled or faults; or the end is another.",
@@ -49,7 +49,7 @@ pub const L4: Explanation = Explanation {
     mending: "Give the log to the composition that it is of. To see how far the actions can be performed, replay them as a list.",
 };
 
-pub const L5: Explanation = Explanation {
+pub static L5: Explanation = Explanation {
     topic: Topic::Code(Code::L5),
     meaning: "All lines of the log are entries, and its end is missing.",
     example: Example::ReplayLog {
@@ -59,7 +59,7 @@ pub const L5: Explanation = Explanation {
     mending: "The log was cut off. If nothing but the end is missing, add it. In this example: `{\"end\":\"done after 1\"}`.",
 };
 
-pub const L6: Explanation = Explanation {
+pub static L6: Explanation = Explanation {
     topic: Topic::Code(Code::L6),
     meaning: "A line stands after the log's end.",
     example: Example::ReplayLog {
@@ -71,7 +71,7 @@ pub const L6: Explanation = Explanation {
     mending: "The end is the last line of a log. Take away what comes after it, a blank line too.",
 };
 
-pub const L7: Explanation = Explanation {
+pub static L7: Explanation = Explanation {
     topic: Topic::Code(Code::L7),
     meaning: "The composition cannot be a monitor: an entry of one of its components is internal, or it hides a name. A log cannot show\n\
         what a specification does unseen.",

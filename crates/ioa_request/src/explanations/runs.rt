@@ -4,7 +4,7 @@ use crate::code::Code;
 use crate::explanation::{Example, Explanation};
 use crate::topic::Topic;
 
-pub const L2: Explanation = Explanation {
+pub static L2: Explanation = Explanation {
     topic: Topic::Code(Code::L2),
     meaning: "This line of the list is no action. An action is a name and, for one value or more, the values in parentheses. Or this\n\
         line of the log is neither an entry nor the end, as an entry is an object with `act`, such an action, and `who`, a number,\n\
@@ -22,7 +22,7 @@ pub const L2: Explanation = Explanation {
         `{\"act\":\"tick(5)\",\"who\":0}`, or the last one as `{\"end\":\"done after 1\"}`. Nothing was performed.",
 };
 
-pub const L8: Explanation = Explanation {
+pub static L8: Explanation = Explanation {
     topic: Topic::Code(Code::L8),
     meaning: "Reading the list or the log, or writing the answer, failed. A beginning of the answer may have been written.",
     example: Example::Told(
@@ -31,7 +31,7 @@ pub const L8: Explanation = Explanation {
     mending: "See to the disk or the pipe, and run it again.",
 };
 
-pub const MEMORY: Explanation = Explanation {
+pub static MEMORY: Explanation = Explanation {
     topic: Topic::Code(Code::Memory),
     meaning: "There was not enough memory.",
     example: Example::Told(
@@ -40,7 +40,7 @@ pub const MEMORY: Explanation = Explanation {
     mending: "Run it again where more memory is free, or with a shorter list.",
 };
 
-pub const IO: Explanation = Explanation {
+pub static IO: Explanation = Explanation {
     topic: Topic::Code(Code::Io),
     meaning: "The file cannot be read, or the object cannot be put in its file, as where another file than an object stands there.",
     example: Example::Told(

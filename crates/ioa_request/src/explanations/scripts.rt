@@ -10,14 +10,14 @@ const SWITCH: &str = "automaton Switch\n\
     transitions output on\n\
     composition Room components s: Switch";
 
-pub const N1: Explanation = Explanation {
+pub static N1: Explanation = Explanation {
     topic: Topic::Code(Code::N1),
     meaning: "A worker may have 100,000 turns at most. Nothing was run.",
     example: Example::Told("`run --alone --turns 100001` gives it, whatever the source."),
     mending: "Ask for fewer turns.",
 };
 
-pub const N2: Explanation = Explanation {
+pub static N2: Explanation = Explanation {
     topic: Topic::Code(Code::N2),
     meaning: "The environment performs inputs alone: actions that a component takes and that no component has as an output or an\n\
         internal action. The script's action of this index is none, and is the first such. Actions count from 0, lines that are\n\
@@ -28,7 +28,7 @@ pub const N2: Explanation = Explanation {
     mending: "Take the action out of the script, or run another composition.",
 };
 
-pub const N3: Explanation = Explanation {
+pub static N3: Explanation = Explanation {
     topic: Topic::Code(Code::N3),
     meaning: "A run takes a thread for each component and one for the environment, and the system refused one of them. The other threads were\n\
         stopped, and nothing was written.",
@@ -38,7 +38,7 @@ pub const N3: Explanation = Explanation {
     mending: "Raise the limit, or run it with `--alone`, on one thread.",
 };
 
-pub const N4: Explanation = Explanation {
+pub static N4: Explanation = Explanation {
     topic: Topic::Code(Code::N4),
     meaning: "A run goes on only from a log of the composition itself: each action is performed, by the worker that is told with it, and the\n\
         end counts them all. The log's action of this index is the first that is not so; or, where the end alone has another count,\n\
@@ -51,7 +51,7 @@ pub const N4: Explanation = Explanation {
     mending: "Take the log as a run of this composition wrote it.",
 };
 
-pub const N5: Explanation = Explanation {
+pub static N5: Explanation = Explanation {
     topic: Topic::Code(Code::N5),
     meaning: "The log from which the run was to go on ends by a fault, and after a fault nothing is performed. Nothing was run.",
     example: Example::Resume {
@@ -62,7 +62,7 @@ pub const N5: Explanation = Explanation {
     mending: "Take a log that ends by `done`.",
 };
 
-pub const WORDS: Explanation = Explanation {
+pub static WORDS: Explanation = Explanation {
     topic: Topic::Code(Code::Words),
     meaning: "This line of the file of words is no list of words. A word is a decimal number up to 4294967295, of digits alone, and one\n\
         space stands between two words. The first line has the words of the first component, and so on; a line that is empty or\n\

@@ -4,7 +4,7 @@ use crate::code::Code;
 use crate::explanation::{Example, Explanation};
 use crate::topic::Topic;
 
-pub const E5: Explanation = Explanation {
+pub static E5: Explanation = Explanation {
     topic: Topic::Code(Code::E5),
     meaning: "A name is declared twice, or has two entries or two proposals, or is hidden twice. Within an automaton its\n\
         formals, its variables and the parameters of an entry differ from each other, and from the names of types, of the\n\
@@ -18,7 +18,7 @@ pub const E5: Explanation = Explanation {
     mending: "Give one of the two another name.",
 };
 
-pub const E6: Explanation = Explanation {
+pub static E6: Explanation = Explanation {
     topic: Topic::Code(Code::E6),
     meaning: "A name is not known here: it is declared nowhere, or only later, or it may not stand in this place; or a tuple\n\
         has no field of this name. Only variables are assigned to; start expressions, arguments and constants of positions\n\
@@ -32,7 +32,7 @@ pub const E6: Explanation = Explanation {
     mending: "Mend its spelling, or declare it before its use. In this example: `m` should be `n`.",
 };
 
-pub const E7: Explanation = Explanation {
+pub static E7: Explanation = Explanation {
     topic: Topic::Code(Code::E7),
     meaning: "An expression has another type than its place wants: a Bool where an Int belongs, or the other way round. A\n\
         precondition, the condition of a choice and an invariant are Bools. A tuple wants a value for each of its fields,\n\
@@ -46,7 +46,7 @@ pub const E7: Explanation = Explanation {
     mending: "Change the expression, or the declared type. In this example: the variable should be a Bool.",
 };
 
-pub const E8: Explanation = Explanation {
+pub static E8: Explanation = Explanation {
     topic: Topic::Code(Code::E8),
     meaning: "Entries of the signature and transitions do not match: each entry has exactly one transition of its kind and\n\
         name. An input is always enabled, so it has neither `pre` nor `propose`.",
@@ -60,7 +60,7 @@ pub const E8: Explanation = Explanation {
         effect do nothing where the input does not matter.",
 };
 
-pub const E9: Explanation = Explanation {
+pub static E9: Explanation = Explanation {
     topic: Topic::Code(Code::E9),
     meaning: "An output or internal action has a parameter for which no value is proposed. A runner would not know which\n\
         value to try; only parameters of Bool or of an enumeration need no proposal.",
@@ -73,7 +73,7 @@ pub const E9: Explanation = Explanation {
     mending: "Say which value to try. In this example: `propose k := c` after the precondition.",
 };
 
-pub const E10: Explanation = Explanation {
+pub static E10: Explanation = Explanation {
     topic: Topic::Code(Code::E10),
     meaning: "A limit is passed: 1,024 types, 256 names of an enumeration, 16 fields of a tuple, a capacity from 1 to 256,\n\
         256 automata and compositions, 256 invariants, 32 components, 64 hidden names, 64 variables or entries of an\n\
@@ -86,7 +86,7 @@ pub const E10: Explanation = Explanation {
     mending: "Part the automaton into several, or keep fewer things in it. In this example: one formal has to go.",
 };
 
-pub const E11: Explanation = Explanation {
+pub static E11: Explanation = Explanation {
     topic: Topic::Code(Code::E11),
     meaning: "A type's values are too large: they would take more than 4,096 words. A truth value, a number and a name of an\n\
         enumeration take one, a tuple those of its fields, a sequence one and its capacity times an item's.",

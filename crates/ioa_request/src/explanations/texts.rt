@@ -4,14 +4,14 @@ use crate::code::Code;
 use crate::explanation::{Example, Explanation};
 use crate::topic::Topic;
 
-pub const E1: Explanation = Explanation {
+pub static E1: Explanation = Explanation {
     topic: Topic::Code(Code::E1),
     meaning: "The source has more than 1,048,576 bytes.",
     example: Example::Told("For example, 1,048,577 spaces."),
     mending: "Write it shorter: take comments out, or part it into several sources.",
 };
 
-pub const E2: Explanation = Explanation {
+pub static E2: Explanation = Explanation {
     topic: Topic::Code(Code::E2),
     meaning: "On this line stands something that is no word of the language: a sign that it does not have, a name of\n\
         more than 64 bytes, or a number above 9223372036854775807.",
@@ -23,7 +23,7 @@ pub const E2: Explanation = Explanation {
     mending: "Take the sign away, or shorten the name. A comment begins with %.",
 };
 
-pub const E3: Explanation = Explanation {
+pub static E3: Explanation = Explanation {
     topic: Topic::Code(Code::E3),
     meaning: "The words up to this line are no beginning of a source: something is missing before the first word on this\n\
         line that does not fit, or that word is too many. What is often the cause: a reserved word as a name, as `output` or\n\
@@ -38,7 +38,7 @@ pub const E3: Explanation = Explanation {
     mending: "Compare the line with the grammar in docs/language.md. In this example: `transitions input open` is missing.",
 };
 
-pub const E4: Explanation = Explanation {
+pub static E4: Explanation = Explanation {
     topic: Topic::Code(Code::E4),
     meaning: "The declaration that begins on this line has parts within parts more than 64 deep.",
     example: Example::Source(
