@@ -189,6 +189,7 @@ impl Alike for Op {
 
     ghost part = { λ op. op };
 
+    // by a match on both: in a proof, `==` is each of the 24 kinds beside each, and this 24 pairs
     fn is_like(&self, other: &Op) -> bool {
         match (self, other) {
             (Op::Neg, Op::Neg)
