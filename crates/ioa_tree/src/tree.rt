@@ -11,10 +11,16 @@ ghost use Rattle.ioa_tree.specs.WellFormed.{is_input};
 use ioa_value::Op;
 
 /// A name as it stands in a source, with its line (from 1).
-#[derive(Drop)]
 pub struct Name {
     pub text: String,
     pub line: u32,
+}
+
+/// Written out, so that who drops one calls this, and does not take it apart itself.
+impl Drop for Name {
+    fn drop(self) {
+        let Name { text: _, line: _ } = self;
+    }
 }
 
 impl Name {
@@ -40,7 +46,6 @@ pub enum Infix {
 }
 
 /// An expression, with the line of its first token.
-#[derive(Drop)]
 pub enum Expression {
     Number(u64, u32),
     Truth(bool, u32),
@@ -56,6 +61,23 @@ pub enum Expression {
     Make(Name, Vec<Expression>),
     /// A field of a tuple.
     Select(Box<Expression>, Name, u32),
+}
+
+/// Written out, so that who drops one calls this, and does not take it apart itself.
+impl Drop for Expression {
+    fn drop(self) {
+        match self {
+            Expression::Number(_, _) => {}
+            Expression::Truth(_, _) => {}
+            Expression::Name(_) => {}
+            Expression::Parentheses(_, _) => {}
+            Expression::Prefix(_, _, _) => {}
+            Expression::Binary(_, _, _, _) => {}
+            Expression::Empty(_, _) => {}
+            Expression::Make(_, _) => {}
+            Expression::Select(_, _, _) => {}
+        }
+    }
 }
 
 impl Expression {
@@ -215,13 +237,25 @@ pub struct Transition {
 }
 
 /// An automaton: signature, state and transitions.
-#[derive(Drop)]
 pub struct Automaton {
     pub name: Name,
     pub formals: Vec<Field>,
     pub entries: Vec<Entry>,
     pub variables: Vec<Variable>,
     pub transitions: Vec<Transition>,
+}
+
+/// Written out, so that who drops one calls this, and does not take it apart itself.
+impl Drop for Automaton {
+    fn drop(self) {
+        let Automaton {
+            name: _,
+            formals: _,
+            entries: _,
+            variables: _,
+            transitions: _,
+        } = self;
+    }
 }
 
 /// The names of the actions by which a component crashes and recovers.
