@@ -5,6 +5,7 @@ pub mod Declared
 pub mod Delivering
 pub mod Given
 pub mod Going
+pub mod Grouping
 pub mod Hosted
 pub mod Kept
 pub mod ListedLines
@@ -21,6 +22,7 @@ pub mod RunServed
 pub mod SeedCuts
 pub mod SeedLines
 pub mod SeedsServed
+pub mod Sharing
 pub mod Streams
 pub mod Subjects
 pub mod Traced

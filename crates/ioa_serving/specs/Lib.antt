@@ -8,9 +8,11 @@ pub mod Dumps
 pub mod Explaining
 pub mod Failing
 pub mod FailureCodes
+pub mod Grouping
 pub mod HasRun
 pub mod Headline
 pub mod Libraries
+pub mod Links
 pub mod ListLogs
 pub mod Logs
 pub mod Pacing

@@ -40,6 +40,8 @@ mod word_sources;
 mod words_file;
 
 // The gate of runs on threads.
+mod groups;
+mod links;
 mod pace;
 mod pacer;
 mod progress;
@@ -56,6 +58,7 @@ pub use compile::{compile_text, compose_text, is_object, object_of, program_of};
 pub use composition_graph::graph_text;
 pub use dump::dump_object;
 pub use failure::Failure;
+pub use groups::groups_of;
 pub use invariant_replay::{Finding, replay_invariants_text};
 pub use laws::{
     objects_do_as_their_sources, objects_run_as_their_sources, one_composition,

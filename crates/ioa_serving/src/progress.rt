@@ -1,14 +1,16 @@
 //! How far one worker of a run on threads has come, and whether others wait for it.
 
 ghost use Rattle.std.specs.Prelude.{◌≡◌};
-ghost use Rattle.ioa_serving.specs.Pacing.{given_up, is_ahead, is_awaited, is_behind, next, unseen};
+ghost use Rattle.ioa_serving.specs.Pacing.{given_up, heeds, is_ahead, is_awaited, is_behind, next, unseen};
 
-/// How many turns a worker may be ahead of another.
+/// How many turns a worker may be ahead of another of its group.
 pub(crate) const LEAD: u64 = 3;
 
 /// How far a worker of a run on threads has come, so far as its gate has seen.
 #[derive(Clone, Copy, Debug, PartialEq, Eq)]
 pub struct Progress {
+    /// Its group: of those of another it is independent.
+    pub group: usize,
     /// How many turns it has begun.
     pub begun: u64,
     /// Whether another has waited for it in vain since it began the last of them.
@@ -16,11 +18,12 @@ pub struct Progress {
 }
 
 impl Progress {
-    /// The progress of a worker of which nothing was seen.
-    pub(crate) fn unseen() -> Progress
-        ensures { result ≡ unseen }
+    /// The progress of a worker of this group of which nothing was seen.
+    pub(crate) fn unseen(group: usize) -> Progress
+        ensures { result ≡ unseen group }
     {
         Progress {
+            group,
             begun: 0,
             is_lost: false,
         }
@@ -31,40 +34,49 @@ impl Progress {
         ensures { result ≡ next self }
     {
         Progress {
+            group: self.group,
             begun: self.begun.saturating_add(1),
             is_lost: false,
         }
     }
 
-    /// Whether who has begun so many turns has to wait for the worker: it has begun none, or is too far behind, and nobody has waited for it
-    /// in vain.
-    pub(crate) fn is_awaited(self, begun: u64) -> bool
-        ensures { result ≡ is_awaited begun self }
+    /// Whether the worker looks at this other one: it is of its group, or has begun no turn.
+    fn heeds(self, other: Progress) -> bool
+        ensures { result ≡ heeds self other }
     {
-        !self.is_lost && (self.begun == 0 || self.begun.saturating_add(LEAD) < begun)
+        other.group == self.group || other.begun == 0
     }
 
-    /// Whether the worker has still to begin as many turns.
-    pub(crate) fn is_behind(self, begun: u64) -> bool
-        ensures { result ≡ is_behind begun self }
+    /// Whether this other one has still to begin as many turns, and nobody has waited for it in vain.
+    pub(crate) fn has_behind(self, other: Progress) -> bool
+        ensures { result ≡ is_behind self other }
     {
-        !self.is_lost && self.begun < begun
+        self.heeds(other) && !other.is_lost && other.begun < self.begun
     }
 
-    /// Whether the worker has begun more turns, but no more than it may.
-    pub(crate) fn is_ahead(self, begun: u64) -> bool
-        ensures { result ≡ is_ahead begun self }
+    /// Whether the worker has to wait for this other one, which has begun no turn, or is too far behind.
+    pub(crate) fn awaits(self, other: Progress) -> bool
+        ensures { result ≡ is_awaited self other }
     {
-        begun < self.begun && self.begun - begun <= LEAD
+        self.has_behind(other)
+            && (other.begun == 0 || other.begun.saturating_add(LEAD) < self.begun)
     }
 
-    /// The progress of the worker once who has begun so many turns has waited in vain.
-    pub(crate) fn given_up(self, begun: u64) -> Progress
-        ensures { result ≡ given_up begun self }
+    /// Whether this other one has begun more turns, but no more than it may.
+    pub(crate) fn has_ahead(self, other: Progress) -> bool
+        ensures { result ≡ is_ahead self other }
+    {
+        self.heeds(other) && self.begun < other.begun && other.begun - self.begun <= LEAD
+    }
+
+    /// The progress of the worker once who has come so far has waited in vain.
+    pub(crate) fn given_up(self, who: Progress) -> Progress
+        ensures { result ≡ given_up who self }
     {
         Progress {
+            group: self.group,
             begun: self.begun,
-            is_lost: self.is_lost || self.is_awaited(begun),
+            is_lost: self.is_lost || who.awaits(self),
         }
     }
 }

@@ -19,6 +19,7 @@ ghost use Rattle.ioa_serving.specs.Statuses.{ending_status};
 ghost use Rattle.ioa_serving.specs.Traces.{performed, ran_text, table_reports, table_text};
 
 use crate::failure::Failure;
+use crate::groups::groups_of;
 use crate::pacer::Pacer;
 use crate::ready::{Ready, load_run};
 use crate::reports::reports_text;
@@ -198,12 +199,22 @@ fn run_by<H: Threads + Wait + Clock + Sync, W: Words + Send + Drop>(
     if settings.alone {
         return resume_alone(alloc, program, log, turns, words, script);
     }
-    let workers = program.members().len().saturating_add(1);
-    let Ok(gate) = Pacer::new(rt, alloc, workers) else {
+    let Ok(gate) = gate_of(rt, alloc, program, script) else {
         // memory is short for the gate, so nobody is held
         return resume_threads(rt, alloc, program, log, turns, words, script, &OpenGate);
     };
     resume_threads(rt, alloc, program, log, turns, words, script, &gate)
+}
+
+/// A gate for the workers of this program, by their groups.
+fn gate_of<'a, H>(
+    rt: &'a H,
+    alloc: Global,
+    program: &Program,
+    script: &[Action],
+) -> Result<Pacer<'a, H>, AllocError> {
+    let groups = groups_of(alloc, program, script)?;
+    Pacer::new(rt, alloc, &groups)
 }
 
 /// The text of the reports, where they are to be told.

@@ -1,30 +1,43 @@
-//! Which workers of a run on threads wait for others as they begin a turn.
+//! Which workers of a run on threads are of one group, and which wait for others as they begin a turn.
 
-use ioa_serving::Pace;
+use ioa_serving::{Pace, groups_of, program_of};
+use ioa_value::Action;
 use std::alloc::Global;
 use std::process::Abort;
 
-/// How many workers there are, and who begins a turn after whom: its number, then `h` where it is held and `g` where it lets others go, and
-/// at last `x` where it waits in vain.
-const ROWS: [(usize, &str); 7] = [
-    (1, "0g 0 0 0 0"),
+/// The group of each worker by a letter or a digit, and who begins a turn after whom: its number, then `h` where it is held and `g` where it
+/// lets others go, and at last `x` where it waits in vain.
+const ROWS: [(&str, &str); 11] = [
+    ("0", "0g 0 0 0 0"),
     // all wait for the last one to come
-    (3, "0h 1h 2g 0 1 2"),
+    ("000", "0h 1h 2g 0 1 2"),
     // who is four turns ahead waits until the other has come to the fourth one
-    (2, "0h 1g 0 0 0 0h 1 1 1g 1 1 1"),
+    ("00", "0h 1g 0 0 0 0h 1 1 1g 1 1 1"),
     // and it is the last one that lets go
-    (3, "0h 1h 2g 0 0 0 0h 1 1 1 2 2 2g"),
+    ("000", "0h 1h 2g 0 0 0 0h 1 1 1 2 2 2g"),
     // one that never comes is waited for once
-    (2, "0hx 0 0 0 0 0"),
+    ("00", "0hx 0 0 0 0 0"),
     // where it comes late, it is waited for again, and lets go once the others are near
-    (2, "0hx 0 0 0 0 0 1g 0h 1 1 1g"),
+    ("00", "0hx 0 0 0 0 0 1g 0h 1 1 1g"),
     // so is one that stays away for a while, but not before it comes
-    (3, "0h 1h 2g 0 1 0 1 0 1 0hx 1 0 1 2 0h 1h 2 2g"),
+    ("000", "0h 1h 2g 0 1 0 1 0 1 0hx 1 0 1 2 0h 1h 2 2g"),
+    // those of two groups wait for each other at their first turn alone, and let nobody go from there
+    ("01", "0h 1g 0 0 0 0 0 0 1 1 1 1"),
+    // and where one never comes, or comes late, no later than that
+    ("01", "0hx 0 0 0 0 1g 0 0 1 1 1"),
+    // one between them is no matter to the others, and they are none to it
+    ("010", "0h 1h 2g 0 0 0 0h 2 2 2g 1 1 1 1 1 1 0 0 0h 2"),
+    // each group has its own pace
+    ("0110", "0h 1h 2h 3g 0 0 0 0h 1 1 1 1h 2 2 2g 1 3 3 3g 0"),
 ];
 
 /// Begins the turns of a row, one after another.
-fn expect_row(rt: &impl Abort, alloc: Global, count: usize, turns: &str) {
-    let mut pace = Pace::new(alloc, count).expect(rt, "memory");
+fn expect_row(rt: &impl Abort, alloc: Global, groups: &str, turns: &str) {
+    let mut numbers = Vec::new(alloc);
+    for group in groups.as_bytes() {
+        numbers.push(usize::from(*group)).expect(rt, "memory");
+    }
+    let mut pace = Pace::new(alloc, &numbers).expect(rt, "memory");
     for turn in turns.split(' ') {
         let (who, marks) = turn.as_bytes().split_first().expect(rt, "a number");
         let arrival = pace.begin(usize::from(who.saturating_sub(b'0')));
@@ -37,15 +50,106 @@ fn expect_row(rt: &impl Abort, alloc: Global, count: usize, turns: &str) {
             "{turn} of {turns}"
         );
         if marks.contains(&b'x') {
-            pace.give_up(arrival.begun);
-            assert!(rt; !pace.is_held(arrival.begun), "{turn} of {turns}");
+            pace.give_up(arrival.worker);
+            assert!(rt; !pace.is_held(arrival.worker), "{turn} of {turns}");
         }
     }
 }
 
 #[test]
 fn workers_wait_for_those_behind(rt: HostRuntime) {
-    for (count, turns) in ROWS {
-        expect_row(&rt, rt.alloc(), count, turns);
+    for (groups, turns) in ROWS {
+        expect_row(&rt, rt.alloc(), groups, turns);
+    }
+}
+
+/// A source, the names of the actions of a script, and the group of each component and of the environment by a letter.
+const GROUPS: [(&str, &str, &str); 8] = [
+    // nobody has an action of another, also where there is one name
+    (
+        "automaton A(i: Int) signature internal go(const i) transitions internal go composition C components P: A(0); Q: A(1); R: A(2)",
+        "",
+        "abcd",
+    ),
+    // who gives something is with those that take it
+    (
+        "automaton G signature output go transitions output go automaton T signature input go transitions input go \
+         automaton N signature internal no transitions internal no composition C components P: T; Q: N; R: G; S: T",
+        "",
+        "abaac",
+    ),
+    // by way of others, in whatever order
+    (
+        "automaton A signature output x transitions output x automaton B signature input x; output y transitions input x output y \
+         automaton D signature input y; output z transitions input y output z automaton E signature input z transitions input z \
+         composition C components P: A; Q: E; R: D; S: B",
+        "",
+        "aaaab",
+    ),
+    // two that take something which none gives
+    (
+        "automaton T signature input go transitions input go composition C components P: T; Q: T",
+        "",
+        "aab",
+    ),
+    // the environment is with those on which its script acts
+    (
+        "automaton T signature input go transitions input go composition C components P: T; Q: T",
+        "go",
+        "aaa",
+    ),
+    (
+        "automaton S signature input here transitions input here automaton T signature input there transitions input there \
+         composition C components P: S; Q: T",
+        "there",
+        "abb",
+    ),
+    (
+        "automaton S signature input here transitions input here automaton T signature input there transitions input there \
+         composition C components P: S; Q: T",
+        "there here",
+        "aaa",
+    ),
+    // what a crash takes away is an action like others
+    (
+        "automaton N signature internal no transitions internal no composition C components P: N crash down recover up; Q: N crash down recover rise",
+        "",
+        "aab",
+    ),
+];
+
+/// The actions of these names, which have no values.
+fn script_of(rt: &impl Abort, alloc: Global, names: &str) -> Vec<Action> {
+    let mut script = Vec::new(alloc);
+    for name in names.split(' ') {
+        if !name.is_empty() {
+            let action = Action {
+                name: String::from_str(alloc, name).expect(rt, "memory"),
+                vals: Vec::new(alloc),
+            };
+            script.push(action).expect(rt, "memory");
+        }
+    }
+    script
+}
+
+#[test]
+fn workers_are_in_groups(rt: HostRuntime) {
+    for (source, names, wanted) in GROUPS {
+        let program = program_of(rt.alloc(), source.as_bytes(), None)
+            .ok()
+            .expect(&rt, "a program");
+        let script = script_of(&rt, rt.alloc(), names);
+        let found = groups_of(rt.alloc(), &program, &script).expect(&rt, "memory");
+        let letters = wanted.as_bytes();
+        assert_eq!(&rt; found.len(), letters.len(), "{source}");
+        for one in 0..found.len() {
+            for other in 0..found.len() {
+                assert!(&rt;
+                    (found[one] == found[other]) == (letters[one] == letters[other]),
+                    "{one} and {other} of {source}"
+                );
+            }
+        }
     }
 }
