@@ -37,7 +37,7 @@ pub fn unmatched_words(
 }
 
 /// The automaton that is the declaration of this index.
-fn automaton_at(declarations: &[Declaration], place: usize) -> Option<&Automaton>
+pub fn automaton_at(declarations: &[Declaration], place: usize) -> Option<&Automaton>
     ensures { IfSome result (λ a. slice_get declarations.now place ≡ Some (Declaration.Automaton a.now)) }
 {
     match declarations.get(place) {

@@ -16,6 +16,7 @@ use Rattle.ioa_serving.specs.declared.failure.Failure.{Failure}
 use Rattle.ioa_serving.specs.FailureCodes.{failure_code}
 use Rattle.ioac.specs.declared.remarks.places.Place.{Place}
 use Rattle.ioac.specs.Places.{file_of, input_name, inputs_of, place_of, resume_of, words_of}
+use Rattle.ioac.specs.Composed.{IsMissingFrom, IsRefusedAt}
 use Rattle.ioac.specs.Worded.{TellsCause}
 use Rattle.ioac.specs.Remarks.{IsDifference, IsLoaded, flat_text, jump_text}
 
@@ -65,6 +66,23 @@ TellsBehindFileEnd holds lacks (Some file) code before after = (log : List ℕ) 
 
 -- ---- what no line of the source itself breaks
 
+-- of a composition that the bytes declare the line of the component, or of the hidden name, at which it is refused, and how; nothing, where it is not so by now
+abbrev pub TellsCompositionIn : Request → Failure → Name → List ℕ → List ℕ → List ℕ → Type 0
+TellsCompositionIn request e file bytes before after =
+    (after ≡ before) ⊎ ((n : ℕ) × (words : List ℕ) × IsRefusedAt request bytes e n words × (after ≡ before ++ jump_text file n (failure_code e) words bytes))
+
+abbrev pub TellsComposition : (Name → List ℕ → Type 0) → (Name → Type 0) → Option Name → Request → Failure → List ℕ → List ℕ → Type 0
+TellsComposition holds lacks None request e before after = after ≡ before
+TellsComposition holds lacks (Some file) request e before after = (bytes : List ℕ) × IsLoaded holds lacks file bytes × TellsCompositionIn request e file bytes before after
+
+-- that there is none, and which there are; nothing, where the file is refused by now
+abbrev pub TellsMissingIn : Request → Code → Name → List ℕ → List ℕ → List ℕ → Type 0
+TellsMissingIn request code file bytes before after = (after ≡ before) ⊎ ((words : List ℕ) × IsMissingFrom request bytes words × (after ≡ before ++ flat_text file code words))
+
+abbrev pub TellsMissing : (Name → List ℕ → Type 0) → (Name → Type 0) → Option Name → Request → Code → List ℕ → List ℕ → Type 0
+TellsMissing holds lacks None request code before after = after ≡ before
+TellsMissing holds lacks (Some file) request code before after = (bytes : List ℕ) × IsLoaded holds lacks file bytes × TellsMissingIn request code file bytes before after
+
 -- nothing; or a line of the file
 abbrev pub MayTellLine : (Name → List ℕ → Type 0) → (Name → Type 0) → Option Name → Code → List ℕ → List ℕ → Type 0
 MayTellLine holds lacks None code before after = after ≡ before
@@ -86,8 +104,8 @@ TellsAt holds lacks request input e (Place.Action i) before after = TellsAction 
 TellsAt holds lacks request input e (Place.Input n) before after = TellsInput holds lacks (input_name request) (inputs_of request) input n (failure_code e) before after
 TellsAt holds lacks request input e Place.BehindEnd before after = TellsBehindEnd (input_name request) (failure_code e) input before after
 TellsAt holds lacks request input e Place.BehindLogEnd before after = TellsBehindFileEnd holds lacks (resume_of request) (failure_code e) before after
-TellsAt holds lacks request input e Place.Composition before after = MayTellLine holds lacks (file_of request) (failure_code e) before after
-TellsAt holds lacks request input e Place.Missing before after = MayTellFile (file_of request) (failure_code e) before after
+TellsAt holds lacks request input e Place.Composition before after = TellsComposition holds lacks (file_of request) request e before after
+TellsAt holds lacks request input e Place.Missing before after = TellsMissing holds lacks (file_of request) request (failure_code e) before after
 TellsAt holds lacks request input e Place.Unseen before after =
     MayTellLine holds lacks (file_of request) (failure_code e) before after ⊎ MayTellFile (file_of request) (failure_code e) before after
 

@@ -1,21 +1,30 @@
 //! What there is to say of a refusal that no line of the file itself breaks: of its composition, at a component or a hidden name; that there is none; or of what it
 //! does unseen.
 
-ghost use Rattle.std.specs.Prelude.{◌≡◌, ◌⊎◌, ℕ, List, OnOk};
+ghost use Rattle.std.specs.Prelude.{◌≡◌, ◌⊎◌, ◌++◌, ℕ, List, Option, IfOk, IfSome, OnOk, true};
+ghost use Rattle.std.specs.Option.{option_copied};
 ghost use Rattle.std.specs.String.{string_bytes};
-ghost use Rattle.ioa_serving.specs.FailureCodes.{failure_code};
+ghost use Rattle.ioa_value.specs.Actions.{Name};
+ghost use Rattle.ioa_serving.specs.FailureCodes.{refusal_code};
+ghost use Rattle.ioa_serving.specs.Headline.{begins_object};
+ghost use Rattle.ioac.specs.Composed as spec;
 ghost use Rattle.ioac.specs.Places as places;
-ghost use Rattle.ioac.specs.Refused.{MayTellFile, MayTellLine};
+ghost use Rattle.ioac.specs.Refused.{MayTellFile, MayTellLine, TellsComposition, TellsCompositionIn, TellsMissing, TellsMissingIn};
+ghost use Rattle.ioac.specs.Remarks.{IsChecking, jump_text};
 
 use crate::remarks::ended::loaded;
 use crate::remarks::heads::{put_flat, put_jump};
 use crate::remarks::heard::program_in;
+use crate::remarks::nameless;
 use crate::remarks::places::{file_of, source_of};
-use crate::remarks::sources::{assembly_in, checked_in, picked};
+use crate::remarks::sources::{Placed, checked_in, first_refused, picked, placed_in, refusal_of};
 use crate::remarks::unseen::{Unseen, line_of_unseen, unseen_in, unseen_words};
-use ioa_causes::{composing, wording};
+use ioa_causes::composing::{line_of_refusal, missing_words, refused_words};
+use ioa_causes::words::general;
 use ioa_request::{Code, Request};
 use ioa_serving::{Failure, Store, is_object};
+use ioa_syntax::Refusal;
+use ioa_tree::Assembly;
 use ioa_value::OutOfMemory;
 use std::alloc::Global;
 
@@ -34,24 +43,52 @@ pub fn put_refused<F: Store>(
     failure: &Failure,
     store: &F,
 ) -> Result<(), OutOfMemory>
-    ensures { OnOk result (MayTellLine (F.holds store.now) (F.lacks store.now) (places.file_of asked.now) (failure_code failure.now) (string_bytes text.old) (string_bytes text.new)) }
+    ensures { OnOk result (TellsComposition (F.holds store.now) (F.lacks store.now) (places.file_of asked.now) asked.now failure.now (string_bytes text.old) (string_bytes text.new)) }
 {
     let Some(name) = file_of(asked) else {
         return Ok(());
     };
     let source = loaded(alloc, name, store)?;
-    match refused_in(alloc, asked, failure, source.as_slice())? {
-        Some(said) => put_jump(
-            alloc,
-            text,
-            name,
-            said.line,
-            failure.code(),
-            said.words.as_str(),
-            source.as_slice(),
-        ),
+    put_refused_in(alloc, text, asked, failure, name, source.as_slice())
+}
+
+/// Puts the same of what a file holds.
+fn put_refused_in(
+    alloc: Global,
+    text: &mut String,
+    asked: &Request<'_>,
+    failure: &Failure,
+    name: &str,
+    source: &[u8],
+) -> Result<(), OutOfMemory>
+    ensures { OnOk result (TellsCompositionIn asked.now failure.now name.now source.now (string_bytes text.old) (string_bytes text.new)) }
+{
+    let code = failure.code();
+    match refused_in(alloc, asked, failure, source)? {
+        Some(said) => put_said(alloc, text, name, code, &said, source),
         None => Ok(()),
     }
+}
+
+fn put_said(
+    alloc: Global,
+    text: &mut String,
+    name: &str,
+    code: Code,
+    said: &Said,
+    source: &[u8],
+) -> Result<(), OutOfMemory>
+    ensures { OnOk result (string_bytes text.new ≡ string_bytes text.old ++ jump_text name.now said.now.line code (string_bytes said.now.words) source.now) }
+{
+    put_jump(
+        alloc,
+        text,
+        name,
+        said.line,
+        code,
+        said.words.as_str(),
+        source,
+    )
 }
 
 /// Where a source has the composition that is refused, and why it is. None, where the source is refused itself, or is another one by now.
@@ -60,28 +97,141 @@ fn refused_in(
     asked: &Request<'_>,
     failure: &Failure,
     source: &[u8],
-) -> Result<Option<Said>, OutOfMemory> {
-    let Failure::Refused(refusal) = failure else {
-        return Ok(None);
-    };
-    let Some(checked) = checked_in(alloc, source)? else {
-        return Ok(None);
-    };
-    let Some(assembly) = assembly_in(alloc, asked, composition_of(asked), &checked)? else {
-        return Ok(None);
-    };
-    let Some(line) = composing::line_of_refusal(assembly, refusal) else {
-        return Ok(None);
-    };
-    let mut words = String::new(alloc);
-    if !composing::put(alloc, &mut words, &checked, assembly, refusal)? {
-        words.push_str(wording(failure.code()))?;
+) -> Result<Option<Said>, OutOfMemory>
+    ensures { IfOk result (λ found. IfSome found (λ said. spec.IsRefusedAt asked.now source.now failure.now said.line (string_bytes said.words))) }
+{
+    match placed_in(alloc, source)? {
+        Some(placed) => asked_in(alloc, asked, failure, &placed),
+        None => Ok(None),
     }
-    Ok(Some(Said { line, words }))
+}
+
+/// Where the composition is refused of which a request asks: of a check the first one that is.
+fn asked_in(
+    alloc: Global,
+    asked: &Request<'_>,
+    failure: &Failure,
+    placed: &Placed,
+) -> Result<Option<Said>, OutOfMemory>
+    ensures { IfOk result (λ found. IfSome found (λ said. spec.IsRefusedFor asked.now placed.now.tokens.items placed.now.checked failure.now said.line (string_bytes said.words))) }
+{
+    if is_checking(asked) {
+        return first_in(alloc, failure, placed);
+    }
+    picked_in(alloc, failure, placed, composition_of(asked))
+}
+
+/// Whether a request checks each composition.
+fn is_checking(asked: &Request<'_>) -> bool
+    ensures { result ≡ true → IsChecking asked.now }
+{
+    match asked {
+        Request::Check { .. } => true,
+        _ => false,
+    }
+}
+
+/// Where the first composition is refused that is.
+fn first_in(alloc: Global, failure: &Failure, placed: &Placed) -> Result<Option<Said>, OutOfMemory>
+    ensures { IfOk result (λ found. IfSome found (λ said. (name : Option Name) × spec.IsRefusedAs placed.now.tokens.items placed.now.checked name failure.now said.line (string_bytes said.words))) }
+{
+    match first_refused(alloc, &placed.checked)? {
+        Some(name) => picked_in(alloc, failure, placed, Some(name)),
+        None => Ok(None),
+    }
+}
+
+/// Where the composition of this name is refused, or the last one where no name is given. None, where it is not.
+fn picked_in(
+    alloc: Global,
+    failure: &Failure,
+    placed: &Placed,
+    name: Option<&str>,
+) -> Result<Option<Said>, OutOfMemory>
+    ensures { IfOk result (λ found. IfSome found (λ said. spec.IsRefusedAs placed.now.tokens.items placed.now.checked (option_copied name.entry) failure.now said.line (string_bytes said.words))) }
+{
+    let declarations = placed.checked.declarations();
+    let Some(assembly) = picked(declarations, name) else {
+        return Ok(None);
+    };
+    let Some(refusal) = refusal_of(alloc, &placed.checked, name)? else {
+        return Ok(None);
+    };
+    said_of(alloc, failure, placed, assembly, refusal)
+}
+
+/// Where a composition names what a refusal tells of, and how it is told. None, where the failure has another code.
+fn said_of(
+    alloc: Global,
+    failure: &Failure,
+    placed: &Placed,
+    assembly: &Assembly,
+    refusal: Refusal,
+) -> Result<Option<Said>, OutOfMemory>
+    ensures { IfOk result (λ found. IfSome found (λ said. spec.TellsRefused placed.now.tokens.items placed.now.checked assembly.now refusal failure.now said.line (string_bytes said.words))) }
+{
+    let said = said_on(alloc, failure, placed, assembly, &refusal);
+    if is_same_code(code_of(refusal), failure.code()) {
+        return said;
+    }
+    Ok(None)
+}
+
+/// The code of a refusal.
+fn code_of(refusal: Refusal) -> Code
+    ensures { result ≡ refusal_code refusal }
+{
+    let failure = Failure::Refused(refusal);
+    failure.code()
+}
+
+fn is_same_code(code: Code, other: Code) -> bool
+    ensures { result ≡ true → code ≡ other }
+{
+    code == other
+}
+
+/// The line on which a composition names what a refusal tells of, and how it is told. None, where it names no such thing.
+fn said_on(
+    alloc: Global,
+    failure: &Failure,
+    placed: &Placed,
+    assembly: &Assembly,
+    refusal: &Refusal,
+) -> Result<Option<Said>, OutOfMemory>
+    ensures { IfOk result (λ found. IfSome found (λ said. spec.TellsOn placed.now.tokens.items placed.now.checked assembly.now refusal.now failure.now said.line (string_bytes said.words))) }
+{
+    match line_of_refusal(placed.tokens.as_slice(), assembly, refusal) {
+        Some(line) => {
+            let line = line as usize;
+            let words = how_refused(alloc, failure, placed, assembly, refusal)?;
+            Ok(Some(Said { line, words }))
+        }
+        None => Ok(None),
+    }
+}
+
+/// How a composition is refused, or what the failure's code says in general.
+fn how_refused(
+    alloc: Global,
+    failure: &Failure,
+    placed: &Placed,
+    assembly: &Assembly,
+    refusal: &Refusal,
+) -> Result<String, OutOfMemory>
+    ensures { IfOk result (λ words. spec.TellsHow placed.now.tokens.items placed.now.checked assembly.now refusal.now failure.now (string_bytes words)) }
+{
+    let tokens = placed.tokens.as_slice();
+    match refused_words(alloc, &placed.checked, tokens, assembly, refusal)? {
+        Some(words) => Ok(words),
+        None => Ok(general(alloc, failure.code())?),
+    }
 }
 
 /// The composition that a request names.
-fn composition_of<'a>(asked: &Request<'a>) -> Option<&'a str> {
+fn composition_of<'a>(asked: &Request<'a>) -> Option<&'a str>
+    ensures { option_copied result ≡ spec.composition_of asked.now }
+{
     match source_of(asked) {
         Some((_, composition)) => composition,
         None => None,
@@ -96,44 +246,78 @@ pub fn put_missing<F: Store>(
     code: Code,
     store: &F,
 ) -> Result<(), OutOfMemory>
-    ensures { OnOk result (MayTellFile (places.file_of asked.now) code (string_bytes text.old) (string_bytes text.new)) }
+    ensures { OnOk result (TellsMissing (F.holds store.now) (F.lacks store.now) (places.file_of asked.now) asked.now code (string_bytes text.old) (string_bytes text.new)) }
 {
     let Some(name) = file_of(asked) else {
         return Ok(());
     };
-    let source = loaded(alloc, name, store)?;
-    match missing_words(alloc, asked, source.as_slice())? {
+    let bytes = loaded(alloc, name, store)?;
+    put_missing_in(alloc, text, asked, code, name, bytes.as_slice())
+}
+
+/// Puts the same of what a file holds.
+fn put_missing_in(
+    alloc: Global,
+    text: &mut String,
+    asked: &Request<'_>,
+    code: Code,
+    name: &str,
+    bytes: &[u8],
+) -> Result<(), OutOfMemory>
+    ensures { OnOk result (TellsMissingIn asked.now code name.now bytes.now (string_bytes text.old) (string_bytes text.new)) }
+{
+    match missing_in(alloc, asked, bytes)? {
         Some(words) => put_flat(text, name, code, words.as_str()),
         None => Ok(()),
     }
 }
 
 /// That a file has no such composition, and which it has. None, where it is refused.
-fn missing_words(
+fn missing_in(
+    alloc: Global,
+    asked: &Request<'_>,
+    bytes: &[u8],
+) -> Result<Option<String>, OutOfMemory>
+    ensures { IfOk result (λ found. IfSome found (λ words. spec.IsMissingFrom asked.now bytes.now (string_bytes words))) }
+{
+    if is_object(bytes) {
+        return object_words(alloc, bytes);
+    }
+    source_words(alloc, asked, bytes)
+}
+
+/// That a source has no such composition, and which it has. None, where it is refused.
+fn source_words(
     alloc: Global,
     asked: &Request<'_>,
     source: &[u8],
-) -> Result<Option<String>, OutOfMemory> {
-    if is_object(source) {
-        return object_words(alloc, source);
-    }
-    let Some(checked) = checked_in(alloc, source)? else {
-        return Ok(None);
-    };
-    let mut words = String::new(alloc);
-    composing::put_missing(&mut words, checked.declarations(), composition_of(asked))?;
-    Ok(Some(words))
-}
-
-/// Of which composition an object is. None, where it is refused.
-fn object_words(alloc: Global, object: &[u8]) -> Result<Option<String>, OutOfMemory> {
-    match program_in(alloc, object, None)? {
-        Some(program) => {
-            let own = program.name();
-            Ok(Some(format!(in alloc; "the object is of the composition `{own}`")?))
+) -> Result<Option<String>, OutOfMemory>
+    ensures { IfOk result (λ found. IfSome found (λ words. spec.IsMissingIn asked.now source.now (string_bytes words))) }
+{
+    match checked_in(alloc, source)? {
+        Some(checked) => {
+            let declarations = checked.declarations();
+            Ok(Some(missing_words(alloc, declarations, composition_of(asked))?))
         }
         None => Ok(None),
     }
+}
+
+/// Of which composition an object is. None, where it is refused.
+fn object_words(alloc: Global, object: &[u8]) -> Result<Option<String>, OutOfMemory>
+    requires { begins_object object.now ≡ true }
+    ensures { IfOk result (λ found. IfSome found (λ words. spec.IsOtherIn object.now (string_bytes words))) }
+{
+    match nameless::program_in(alloc, object, None)? {
+        Some(program) => Ok(Some(own_words(alloc, program.name())?)),
+        None => Ok(None),
+    }
+}
+
+fn own_words(alloc: Global, name: &str) -> Result<String, OutOfMemory>
+    ensures { IfOk result (λ words. string_bytes words ≡ spec.own_words name.now) }
+{
+    Ok(format!(in alloc; "the object is of the composition `{name}`")?)
 }
 
 /// Puts what the composition does unseen, so that it is no monitor: of a source with the line that declares it.

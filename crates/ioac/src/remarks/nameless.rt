@@ -85,7 +85,7 @@ fn put_monitor(
 }
 
 /// The program of the object. None, where the object is refused, or is of another composition than the one of this name.
-fn program_in(
+pub fn program_in(
     alloc: Global,
     object: &[u8],
     name: Option<&str>,

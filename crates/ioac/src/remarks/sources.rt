@@ -1,21 +1,28 @@
 //! Where a source names what is told of.
 
-ghost use Rattle.std.specs.Prelude.{◌≡◌, find, reverse, option_map};
+ghost use Rattle.std.specs.Prelude.{◌≡◌, IfOk, IfSome, Some, find, reverse, option_map};
 ghost use Rattle.std.specs.Option.{option_copied};
 ghost use Rattle.std.specs.Str.{bytes_eq};
+ghost use Rattle.ioa_lex.specs.Lexing.{placed};
 ghost use Rattle.ioa_tree.specs.Compositions as compositions;
+ghost use Rattle.ioa_tree.specs.Tree.{CompositionTree};
 ghost use Rattle.ioa_tree.specs.View.{assembly_of, tree_of};
+ghost use Rattle.ioa_syntax.specs.Stuck.{IsNumbered};
+ghost use Rattle.ioa_compose.specs.Refusals.{IsRefused};
+ghost use Rattle.ioa_serving.specs.Headline.{Spells};
 
 use ioa_check::{Checked, check};
 use ioa_compose::compose;
-use ioa_request::Request;
-use ioa_syntax::{Refusal, parse};
+use ioa_lex::Token;
+use ioa_syntax::{Numbered, Refusal, parse, parse_numbered};
 use ioa_tree::{Assembly, Declaration};
 use ioa_value::OutOfMemory;
 use std::alloc::Global;
 
 /// The source that a text is, if it keeps the rules.
-pub fn checked_in(alloc: Global, text: &[u8]) -> Result<Option<Checked>, OutOfMemory> {
+pub fn checked_in(alloc: Global, text: &[u8]) -> Result<Option<Checked>, OutOfMemory>
+    ensures { IfOk result (λ found. IfSome found (λ c. Spells text.now (tree_of c))) }
+{
     let source = match parse(alloc, text) {
         Ok(source) => source,
         Err(Refusal::OutOfMemory) => return Err(OutOfMemory),
@@ -28,31 +35,55 @@ pub fn checked_in(alloc: Global, text: &[u8]) -> Result<Option<Checked>, OutOfMe
     }
 }
 
-/// The composition of a source that a request is about: of a check the first that is refused, of others the one of this name, or the last where none is
-/// named.
-pub fn assembly_in<'a>(
-    alloc: Global,
-    asked: &Request<'_>,
-    composition: Option<&str>,
-    checked: &'a Checked,
-) -> Result<Option<&'a Assembly>, OutOfMemory> {
-    match asked {
-        Request::Check { .. } => first_refused(alloc, checked),
-        _ => Ok(picked(checked.declarations(), composition)),
+/// A source that keeps the rules, whose lines are indices of its tokens, and these tokens.
+#[derive(Drop)]
+pub struct Placed {
+    pub checked: Checked,
+    pub tokens: Vec<Token>,
+}
+
+/// The source that a text is, if it keeps the rules, with its tokens.
+pub fn placed_in(alloc: Global, text: &[u8]) -> Result<Option<Placed>, OutOfMemory>
+    ensures { IfOk result (λ found. IfSome found (λ p. IsNumbered text.now (placed p.tokens.items) (tree_of p.checked))) }
+{
+    let numbered = match parse_numbered(alloc, text) {
+        Ok(numbered) => numbered,
+        Err(Refusal::OutOfMemory) => return Err(OutOfMemory),
+        Err(_) => return Ok(None),
+    };
+    let Numbered { source, tokens } = numbered;
+    match check(alloc, source) {
+        Ok(checked) => Ok(Some(Placed { checked, tokens })),
+        Err(Refusal::OutOfMemory) => Err(OutOfMemory),
+        Err(_) => Ok(None),
     }
 }
 
-/// The first composition of a source that is refused.
-fn first_refused<'a>(
+/// Why the composition of this name is refused, or the last one where no name is given. None, where it is not.
+pub fn refusal_of(
+    alloc: Global,
+    checked: &Checked,
+    name: Option<&str>,
+) -> Result<Option<Refusal>, OutOfMemory>
+    ensures { IfOk result (λ found. IfSome found (λ r. (t : CompositionTree) → compositions.picked (tree_of checked.now) (option_copied name.entry) ≡ Some t → IsRefused (tree_of checked.now) t r)) }
+{
+    match compose(alloc, checked, name) {
+        Ok(_) => Ok(None),
+        Err(Refusal::OutOfMemory) => Err(OutOfMemory),
+        Err(refusal) => Ok(Some(refusal)),
+    }
+}
+
+/// The name of the first composition of a source that is refused.
+pub fn first_refused<'a>(
     alloc: Global,
     checked: &'a Checked,
-) -> Result<Option<&'a Assembly>, OutOfMemory> {
+) -> Result<Option<&'a str>, OutOfMemory> {
     for declaration in checked.declarations() {
         if let Declaration::Composition(assembly) = declaration {
-            match compose(alloc, checked, Some(assembly.name.text.as_str())) {
-                Ok(_) => {}
-                Err(Refusal::OutOfMemory) => return Err(OutOfMemory),
-                Err(_) => return Ok(Some(assembly)),
+            let name = assembly.name.text.as_str();
+            if refusal_of(alloc, checked, Some(name))?.is_some() {
+                return Ok(Some(name));
             }
         }
     }

@@ -1,0 +1,29 @@
+use Rattle.std.proofs.Common.{Option, inl, inr, refl, string_bytes}
+use Rattle.std.specs.Option.{option_copied}
+use Rattle.ioa_value.specs.Actions.{Name}
+use Rattle.ioa_causes.proofs.Found.{if_found}
+use Rattle.ioac.specs.declared.remarks.composed.Said.{Said}
+use Rattle.ioac.specs.Composed.{IsRefusedAs, IsRefusedFor}
+use Rattle.ioac.proofs.remarks.composed.asked_in.Goals as goal
+
+-- a check asks of each
+pub returns-then-is_checking : goal.returns-then-is_checking
+returns-then-is_checking c =
+    let ts = c.args.placed.now.tokens.items in
+    let ds = c.args.placed.now.checked in
+    let e = c.args.failure.now in
+    if_found (λ (s : Said). (name : Option Name) × IsRefusedAs ts ds name e s.line (string_bytes s.words)) (λ (s : Said). IsRefusedFor c.args.asked.now ts ds e s.line (string_bytes s.words))
+    c.first_in.result
+    (λ said refused. (refused.0, inl (c.if-is_checking.ensures refl), refused.1))
+    c.first_in.ensures
+
+-- others of the one that they name
+pub returns : goal.returns
+returns c =
+    let ts = c.args.placed.now.tokens.items in
+    let ds = c.args.placed.now.checked in
+    let e = c.args.failure.now in
+    let name = option_copied c.composition_of.result in
+    if_found (λ (s : Said). IsRefusedAs ts ds name e s.line (string_bytes s.words)) (λ (s : Said). IsRefusedFor c.args.asked.now ts ds e s.line (string_bytes s.words)) c.picked_in.result
+    (λ said refused. (name, inr c.composition_of.ensures, refused))
+    c.picked_in.ensures

@@ -1,0 +1,70 @@
+-- What is told of a composition of a source that is refused: the line of the component, or of the hidden name, at which it is, and how.
+use Rattle.std.specs.Prelude.{◌≡◌, ◌⊎◌, ◌++◌, ℕ, List, Option, None, Some, codes}
+use Rattle.std.specs.Option.{option_and_then}
+use Rattle.ioa_value.specs.Actions.{Name}
+use Rattle.ioa_lex.specs.declared.refusal.Refusal.{Refusal}
+use Rattle.ioa_lex.specs.declared.token.Token.{Token}
+use Rattle.ioa_lex.specs.Lexing.{placed}
+use Rattle.ioa_tree.specs.declared.tree.Assembly.{Assembly}
+use Rattle.ioa_tree.specs.declared.tree.Declaration.{Declaration}
+use Rattle.ioa_tree.specs.Compositions.{picked}
+use Rattle.ioa_tree.specs.View.{assembly_of, tree_of}
+use Rattle.ioa_syntax.specs.Stuck.{IsNumbered}
+use Rattle.ioa_compose.specs.Refusals.{IsRefused}
+use Rattle.ioa_compile.specs.Programs.{Prog}
+use Rattle.ioa_causes.specs.Composing.{IsRefusedOn, TellsComposed, declared, missing_words}
+use Rattle.ioa_causes.specs.Worded.{wording}
+use Rattle.ioa_request.specs.declared.request.Request.{Request}
+use Rattle.ioa_serving.specs.declared.failure.Failure.{Failure}
+use Rattle.ioa_serving.specs.FailureCodes.{failure_code, refusal_code}
+use Rattle.ioa_serving.specs.Headline.{IsObjectOf, Spells}
+use Rattle.ioac.specs.Remarks.{IsChecking, source_of}
+
+-- the composition that a request names
+abbrev pub composition_of : Request → Option Name
+composition_of request = option_and_then (λ p. p.1) (source_of request)
+
+-- a check asks of each composition, others of the one that is named, or of the last
+abbrev pub Asks : Request → Option Name → Type 0
+Asks request name = IsChecking request ⊎ (name ≡ composition_of request)
+
+-- how it is refused, or what the code says in general
+abbrev pub TellsHow : List Token → List Declaration → Assembly → Refusal → Failure → List ℕ → Type 0
+TellsHow ts ds c r e words = TellsComposed ts ds c r words ⊎ (words ≡ wording (failure_code e))
+
+-- the line of what a refusal tells of, and how; the refusal is of the failure's code
+abbrev pub TellsOn : List Token → List Declaration → Assembly → Refusal → Failure → ℕ → List ℕ → Type 0
+TellsOn ts ds c r e line words = IsRefusedOn ts c r line × TellsHow ts ds c r e words
+
+abbrev pub TellsRefused : List Token → List Declaration → Assembly → Refusal → Failure → ℕ → List ℕ → Type 0
+TellsRefused ts ds c r e line words = (refusal_code r ≡ failure_code e) × TellsOn ts ds c r e line words
+
+-- the composition that is picked by the name is refused so
+abbrev pub IsRefusedAs : List Token → List Declaration → Option Name → Failure → ℕ → List ℕ → Type 0
+IsRefusedAs ts ds name e line words =
+    (c : Assembly) × (r : Refusal) × (picked (tree_of ds) name ≡ Some (assembly_of c)) × IsRefused (tree_of ds) (assembly_of c) r × TellsRefused ts ds c r e line words
+
+-- the request asks of it
+abbrev pub IsRefusedFor : Request → List Token → List Declaration → Failure → ℕ → List ℕ → Type 0
+IsRefusedFor request ts ds e line words = (name : Option Name) × Asks request name × IsRefusedAs ts ds name e line words
+
+-- these are the tokens of the text, and the declarations that they spell, whose lines are indices of tokens
+abbrev pub IsRefusedAt : Request → List ℕ → Failure → ℕ → List ℕ → Type 0
+IsRefusedAt request text e line words =
+    (ts : List Token) × (ds : List Declaration) × IsNumbered text (placed ts) (tree_of ds) × IsRefusedFor request ts ds e line words
+
+-- ---- that there is none
+
+-- a source has none of the name, or none at all; and which it has
+abbrev pub IsMissingIn : Request → List ℕ → List ℕ → Type 0
+IsMissingIn request text words = (ds : List Declaration) × Spells text (tree_of ds) × (words ≡ missing_words (composition_of request) (declared ds))
+
+-- an object is of another
+abbrev pub own_words : Name → List ℕ
+own_words x = codes "the object is of the composition `" ++ (x ++ codes "`")
+
+abbrev pub IsOtherIn : List ℕ → List ℕ → Type 0
+IsOtherIn object words = (p : Prog) × IsObjectOf object None p × (words ≡ own_words p.name)
+
+abbrev pub IsMissingFrom : Request → List ℕ → List ℕ → Type 0
+IsMissingFrom request bytes words = IsMissingIn request bytes words ⊎ IsOtherIn bytes words
