@@ -1,18 +1,24 @@
 //! What is wrong with a line of a list, of a log or of a run's script: what is not known in it, or whose action it is.
 
-ghost use Rattle.std.specs.Prelude.{◌≡◌, ◌+◌, false, IfOk, IfSome};
+ghost use Rattle.std.specs.Prelude.{◌≡◌, ◌+◌, false, IfOk, IfSome, map};
+ghost use Rattle.std.specs.String.{string_bytes};
+ghost use Rattle.ioa_value.specs.Actions.{act_of};
+ghost use Rattle.ioa_compile.specs.Shown.{member_code};
+ghost use Rattle.ioa_compile.specs.Tables.{tabled};
+ghost use Rattle.ioa_system.specs.Logs.{log_entry, worker};
 ghost use Rattle.ioac.specs.Hints.{IsUnknown};
+ghost use Rattle.ioac.specs.Owners as owners;
 ghost use Rattle.ioac.specs.Refused.{IsBehindEnd};
 
 use ioa_account::line_at;
 use ioa_causes::composing::kind_words;
-use ioa_compile::Program;
+use ioa_compile::{Member, Program};
 use ioa_log::{LogErr, begun_log};
 use ioa_object::ObjErr;
 use ioa_request::Request;
 use ioa_serving::{Failure, program_of};
 use ioa_syntax::Refusal;
-use ioa_system::{Participation, owner};
+use ioa_system::{LogEntry, Participation, owner};
 use ioa_tree::Kind;
 use ioa_value::{Action, OutOfMemory, Types, print_action, read_action};
 use std::alloc::Global;
@@ -189,31 +195,83 @@ fn put_owner(
     program: &Program,
     heard: Heard<'_>,
 ) -> Result<bool, OutOfMemory> {
-    let Some(log) = begun_log(alloc, program.types(), heard.bytes, heard.line)? else {
-        return Ok(false);
-    };
-    let Some(entry) = log.entries.last() else {
-        return Ok(false);
-    };
-    let action = print_action(alloc, program.types(), &entry.action)?;
-    let action = action.as_str();
-    let part = Participation::of(alloc, program, &entry.action)?;
-    let worker = part.worker();
-    let told = entry.who;
-    match program.members().get(worker) {
-        Some(member) => {
-            let name = member.name.as_str();
-            write!(
-                text,
-                "{action} is performed by {name}, worker {worker}, and the log says worker {told}"
-            )?;
+    match owner_words(alloc, program, heard.bytes, heard.line)? {
+        Some(words) => {
+            text.push_str(words.as_str())?;
+            Ok(true)
         }
-        None => write!(
-            text,
-            "{action} is performed by the environment, worker {worker}, and the log says worker {told}"
-        )?,
+        None => Ok(false),
     }
-    Ok(true)
+}
+
+/// Whose action the last entry up to a line is, and whose the log says. None, where a line before is neither an entry nor the end.
+fn owner_words(
+    alloc: Global,
+    program: &Program,
+    log: &[u8],
+    line: usize,
+) -> Result<Option<String>, OutOfMemory>
+    ensures { IfOk result (λ found. IfSome found (λ words. owners.TellsOwner program.now log.now line (string_bytes words))) }
+{
+    match begun_log(alloc, program.types(), log, line)? {
+        Some(begun) => last_words(alloc, program, begun.entries.as_slice()),
+        None => Ok(None),
+    }
+}
+
+/// The same of the last of these entries.
+fn last_words(
+    alloc: Global,
+    program: &Program,
+    entries: &[LogEntry],
+) -> Result<Option<String>, OutOfMemory>
+    ensures { IfOk result (λ found. IfSome found (λ words. owners.TellsLast program.now (map log_entry entries.now) (string_bytes words))) }
+{
+    match entries.last() {
+        Some(entry) => Ok(Some(entry_words(alloc, program, entry)?)),
+        None => Ok(None),
+    }
+}
+
+/// Whose action an entry is, and whose the log says.
+fn entry_words(alloc: Global, program: &Program, entry: &LogEntry) -> Result<String, OutOfMemory>
+    ensures { IfOk result (λ words. string_bytes words ≡ owners.owner_text program.now entry.now.who (act_of entry.now.action)) }
+{
+    let number = worker_of(alloc, program, &entry.action)?;
+    let name = performer(program.members(), number);
+    let action = print_action(alloc, program.types(), &entry.action)?;
+    owned_words(alloc, action.as_str(), name, number, entry.who)
+}
+
+/// The number of the worker that performs an action.
+fn worker_of(alloc: Global, program: &Program, action: &Action) -> Result<usize, OutOfMemory>
+    ensures { IfOk result (λ number. number ≡ worker (tabled program.now) (act_of action.now)) }
+{
+    Ok(Participation::of(alloc, program, action)?.worker())
+}
+
+/// The worker of this number.
+fn performer(members: &[Member], number: usize) -> &str
+    ensures { result.now ≡ owners.performer (map member_code members.now) number }
+{
+    match members.get(number) {
+        Some(member) => member.name.as_str(),
+        None => "the environment",
+    }
+}
+
+fn owned_words(
+    alloc: Global,
+    action: &str,
+    name: &str,
+    number: usize,
+    who: usize,
+) -> Result<String, OutOfMemory>
+    ensures { IfOk result (λ words. string_bytes words ≡ owners.owned_text action.now name.now number who) }
+{
+    Ok(format!(in alloc;
+        "{action} is performed by {name}, worker {number}, and the log says worker {who}"
+    )?)
 }
 
 /// Puts that a line stands behind a log's end.
