@@ -1,8 +1,8 @@
 -- What groups are once two of them have become one.
-use Rattle.std.proofs.Common.{◌≡◌, ◌+◌, ◌++◌, ◌<◌, ◌≤◌, ◌∙◌, ◌⊎◌, ℕ, Bool, IsTrue, true, false, List, [], ◌∷◌, ap, arith, cond, drop, eqb, get_or, inl, inr, length, map, refl, subst, suc, sym, take, ⊎_elim}
+use Rattle.std.proofs.Common.{◌≡◌, ◌+◌, ◌++◌, ◌<◌, ◌≤◌, ◌∙◌, ℕ, Bool, IsTrue, List, [], ◌∷◌, ap, arith, drop, length, map, refl, subst, sym, take, ⊎_elim}
 use Rattle.std.specs.Prelude.{slice_index}
 use Rattle.std.specs.List.{range_with_len}
-use Rattle.std.proofs.lemmas.Bool.{cases_Bool, cases_eq}
+use Rattle.std.proofs.lemmas.Bool.{cases_eq}
 use Rattle.std.proofs.lemmas.List.{append-nil, drop_all, get_or-map, length-map, map-id, take_all}
 use Rattle.std.proofs.lemmas.List.FromFn.{get_or-range_with_len, length-range_with_len, map-range_with_len_more}
 use Rattle.ioa_serving.specs.Grouping.{AreGroups, AreLinked, AreTogether, HasJoined, IsCommon, Keeps, merged}

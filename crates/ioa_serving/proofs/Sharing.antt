@@ -1,5 +1,5 @@
 -- Workers that take part in one action are linked, so they are of one group.
-use Rattle.std.proofs.Common.{◌≡◌, ◌≢◌, ◌+◌, ◌<◌, ◌≤◌, ◌&&◌, ◌∙◌, ◌⊎◌, ℕ, zero, suc, Bool, IsTrue, true, false, List, [], ◌∷◌, Option, None, Some, ap, arith, find, inl, inr, length, refl, subst, sym, ⊎_elim}
+use Rattle.std.proofs.Common.{◌≡◌, ◌+◌, ◌<◌, ◌≤◌, ◌∙◌, ℕ, zero, suc, Bool, true, List, [], ◌∷◌, Option, None, Some, ap, arith, length, refl, subst, sym}
 use Rattle.std.specs.Prelude.{slice_get}
 use Rattle.std.specs.List.{list_any}
 use Rattle.std.specs.Option.{option_map}
@@ -13,9 +13,9 @@ use Rattle.ioa_value.proofs.ItemLemmas.{find_at}
 use Rattle.ioa_value.proofs.PositionLemmas.{all_take-meet}
 use Rattle.ioa_tree.specs.Components.{has, is_kind}
 use Rattle.ioa_compile.specs.Programs.{EntryCode, MemberCode, Prog}
-use Rattle.ioa_compile.specs.Tables.{AreMembers, IsMember, IsProgram, entry_of, is_in, table_component}
+use Rattle.ioa_compile.specs.Tables.{AreMembers, IsProgram, entry_of, is_in, table_component}
 use Rattle.ioa_serving.specs.Grouping.{AreGroups, AreTogether}
-use Rattle.ioa_serving.specs.Links.{IsPart, ShareGroups, TakesPart, are_linked, are_linked_by, has_of, have_common, share, takes_part}
+use Rattle.ioa_serving.specs.Links.{IsPart, ShareGroups, are_linked, are_linked_by, has_of, have_common, share, takes_part}
 
 any_of : {X : Type 0} (q : X → Bool) (xs : List X) (i : ℕ) (x : X) → slice_get xs i ≡ Some x → q x ≡ true → list_any q xs ≡ true
 any_of q [] i x e h = absurd (cc)

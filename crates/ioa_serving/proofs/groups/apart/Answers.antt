@@ -1,4 +1,4 @@
-use Rattle.std.proofs.Common.{◌≡◌, ◌∙◌, ◌++◌, [], ◌∷◌, ap, arith, rules, sym}
+use Rattle.std.proofs.Common.{◌≡◌, ◌∙◌, ◌++◌, [], ◌∷◌, ap, rules, sym}
 use Rattle.std.specs.List.{range_with_len}
 use Rattle.ioa_serving.proofs.Grouping.{range_more}
 use Rattle.ioa_serving.proofs.groups.apart.Goals as goal
