@@ -113,9 +113,10 @@ const GROUPS: [(&str, &str, &str); 8] = [
     ),
     // what takes a host down is an action like others
     (
-        "automaton N signature internal no transitions internal no composition C components P: N crash down recover up; Q: N crash down recover rise",
+        "automaton N(i: Int) signature internal no(const i) transitions internal no \
+         composition C components P: N(0) crash down recover up; Q: N(1) crash down recover rise; R: N(2)",
         "",
-        "0 0 2 ",
+        "0 0 2 3 ",
     ),
 ];
 
@@ -149,6 +150,7 @@ fn first_workers(rt: &impl Abort, alloc: Global, groups: &[usize]) -> String {
 fn workers_are_in_groups(rt: HostRuntime) {
     for (source, names, wanted) in GROUPS {
         let program = program_of(rt.alloc(), source.as_bytes(), None);
+        assert!(rt; program.is_ok(), "no program of {source}");
         let program = program.ok().expect(&rt, "a program");
         let script = script_of(&rt, rt.alloc(), names);
         let groups = groups_of(rt.alloc(), &program, &script).expect(&rt, "memory");
