@@ -118,7 +118,8 @@ fn asked_in(
     if is_checking(asked) {
         return first_in(alloc, failure, placed);
     }
-    picked_in(alloc, failure, placed, composition_of(asked))
+    let name = composition_of(asked);
+    picked_in(alloc, failure, placed, name)
 }
 
 /// Whether a request checks each composition.
@@ -171,7 +172,9 @@ fn said_of(
     ensures { IfOk result (λ found. IfSome found (λ said. spec.TellsRefused placed.now.tokens.items placed.now.checked assembly.now refusal failure.now said.line (string_bytes said.words))) }
 {
     let said = said_on(alloc, failure, placed, assembly, &refusal);
-    if is_same_code(code_of(refusal), failure.code()) {
+    let own = code_of(refusal);
+    let code = failure.code();
+    if is_same_code(own, code) {
         return said;
     }
     Ok(None)

@@ -23,7 +23,7 @@ returns c =
     let ts = c.args.placed.now.tokens.items in
     let ds = c.args.placed.now.checked in
     let e = c.args.failure.now in
-    let name = option_copied c.composition_of.result in
+    let name = option_copied c.composition_of-name.result in
     if_found (λ (s : Said). IsRefusedAs ts ds name e s.line (string_bytes s.words)) (λ (s : Said). IsRefusedFor c.args.asked.now ts ds e s.line (string_bytes s.words)) c.picked_in.result
-    (λ said refused. (name, inr c.composition_of.ensures, refused))
+    (λ said refused. (name, inr c.composition_of-name.ensures, refused))
     c.picked_in.ensures

@@ -13,7 +13,7 @@ returns-then-is_same_code c =
     let a = c.args.assembly.now in
     let r = c.args.refusal in
     let e = c.args.failure.now in
-    let codes : refusal_code r ≡ failure_code e = sym c.code_of.ensures ∙ c.if-is_same_code.ensures refl ∙ c.code.ensures in
+    let codes : refusal_code r ≡ failure_code e = sym c.code_of-own.ensures ∙ c.if-is_same_code.ensures refl ∙ c.code-code.ensures in
     if_found (λ (s : Said). TellsOn ts ds a r e s.line (string_bytes s.words)) (λ (s : Said). TellsRefused ts ds a r e s.line (string_bytes s.words)) c.said_on-said.result
     (λ said tells. (codes, tells))
     c.said_on-said.ensures
