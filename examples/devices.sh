@@ -86,6 +86,8 @@ unprinted long.log replay counter.ioa --log
 unprinted delivered.list replay ordered.ioa --comp Link --log
 unprinted counts.list log counter.ioa
 unprinted long.log monitor counter.ioa
+unprinted long.log watch counter.ioa --comp One
+unprinted turned.list watch ordered.ioa --comp InOrder
 unprinted long.log chart counter.ioa
 unprinted /dev/null graph counter.ioa
 unprinted /dev/null run counter.ioa --turns 50
@@ -110,7 +112,7 @@ untold compile types.ioa new
 [ ! -e new ] || fail "compile types.ioa new" "a file is left"
 
 # The list or the log cannot be read: there is none, or it is a folder
-for words in 'replay counter.ioa' 'log counter.ioa' 'replay counter.ioa --log' 'monitor counter.ioa' 'chart counter.ioa'; do
+for words in 'replay counter.ioa' 'log counter.ioa' 'replay counter.ioa --log' 'monitor counter.ioa' 'watch counter.ioa --comp One' 'chart counter.ioa'; do
   # shellcheck disable=SC2086
   "$program" $words <&- > "$work/printed" 2> "$work/errors"
   status=$?

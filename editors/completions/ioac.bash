@@ -10,7 +10,7 @@ _ioac_compositions() {
 
 _ioac() {
   local word=${COMP_WORDS[COMP_CWORD]} before=${COMP_WORDS[COMP_CWORD - 1]}
-  local commands='check compile dump replay log run monitor chart graph explain library help'
+  local commands='check compile dump replay log run monitor watch chart graph explain library help'
   local options
   if [ "$COMP_CWORD" -eq 1 ]; then
     mapfile -t COMPREPLY < <(compgen -W "$commands --help --version" -- "$word")
@@ -24,6 +24,7 @@ _ioac() {
     log) options='--comp --explain --help' ;;
     run) options='--comp --alone --turns --seed --words --seeds --inputs --resume --log --reports --explain --help' ;;
     monitor) options='--comp --explain --help' ;;
+    watch) options='--comp --first --explain --help' ;;
     chart) options='--comp --explain --help' ;;
     graph) options='--comp --explain --help' ;;
     explain) options='--explain --help' ;;

@@ -32,6 +32,7 @@ complete -c ioac -n __ioac_wants_command -a replay -d 'Replay a list of actions,
 complete -c ioac -n __ioac_wants_command -a log -d 'Perform a list of actions, and print the log'
 complete -c ioac -n __ioac_wants_command -a run -d 'Run a composition by chance'
 complete -c ioac -n __ioac_wants_command -a monitor -d 'Tell whether a specification accepts a log'
+complete -c ioac -n __ioac_wants_command -a watch -d 'Tell which specifications refuse an action of a stream'
 complete -c ioac -n __ioac_wants_command -a chart -d 'Draw a log as a sequence diagram'
 complete -c ioac -n __ioac_wants_command -a graph -d 'Draw a composition as a graph'
 complete -c ioac -n __ioac_wants_command -a explain -d 'Say what a printed text means'
@@ -39,13 +40,14 @@ complete -c ioac -n __ioac_wants_command -a library -d 'Print the library of lin
 complete -c ioac -n __ioac_wants_command -a help -d 'Print the help of the program, or of a command'
 complete -c ioac -n __ioac_bare -l help -d 'Print help'
 complete -c ioac -n __ioac_bare -l version -d 'Print the version'
-complete -c ioac -n '__ioac_of check compile dump replay log run monitor chart graph' -F
+complete -c ioac -n '__ioac_of check compile dump replay log run monitor watch chart graph' -F
 
 complete -c ioac -n '__ioac_of check' -l compositions -d 'Compose each composition, too'
-complete -c ioac -n '__ioac_of compile replay log run monitor chart graph' -l comp -x -a '(__ioac_compositions)' -d 'The composition to take'
+complete -c ioac -n '__ioac_of compile replay log run monitor watch chart graph' -l comp -x -a '(__ioac_compositions)' -d 'The composition to take'
 complete -c ioac -n '__ioac_of replay' -l log -d 'Read a log'
 complete -c ioac -n '__ioac_of replay' -l invariants -d 'Ask for the invariants'
 complete -c ioac -n '__ioac_of replay' -l states -d 'Print the variables behind the end'
+complete -c ioac -n '__ioac_of watch' -l first -d 'End at the first refusal'
 complete -c ioac -n '__ioac_of run' -l alone -d 'Take turns on one thread'
 complete -c ioac -n '__ioac_of run' -l turns -x -d 'Turns of each worker'
 complete -c ioac -n '__ioac_of run' -l seed -x -d '64 hexadecimal digits'
@@ -55,5 +57,5 @@ complete -c ioac -n '__ioac_of run' -l inputs -r -F -d 'A file with a list of in
 complete -c ioac -n '__ioac_of run' -l resume -r -F -d 'A file with the log to go on from'
 complete -c ioac -n '__ioac_of run' -l log -d 'Print the log'
 complete -c ioac -n '__ioac_of run' -l reports -d 'Tell what became of the turns'
-complete -c ioac -n '__ioac_of check compile dump replay log run monitor chart graph explain library' -l explain -d 'Say more of the outcome'
-complete -c ioac -n '__ioac_of check compile dump replay log run monitor chart graph explain library' -l help -d 'Print help'
+complete -c ioac -n '__ioac_of check compile dump replay log run monitor watch chart graph explain library' -l explain -d 'Say more of the outcome'
+complete -c ioac -n '__ioac_of check compile dump replay log run monitor watch chart graph explain library' -l help -d 'Print help'

@@ -14,7 +14,7 @@ use Rattle.ioa_request.specs.declared.request.Request.{Request}
 use Rattle.ioa_request.specs.declared.seeds.Seeds.{Seeds}
 use Rattle.ioa_request.specs.declared.settings.Settings.{Settings}
 use Rattle.ioa_request.specs.declared.topic.Topic.{Topic}
-use Rattle.ioa_request.specs.Pasted.{IsPasted}
+use Rattle.ioa_request.specs.Pasted.{IsPasted, texts}
 use Rattle.ioa_request.specs.CommandLine.{AreSeeds, AreSettings, IsAskedBy, Names, is_set}
 use Rattle.ioa_request.specs.Seeds.{range_in}
 use Rattle.ioa_request.specs.Settings.{source_in, source_of, turns_in}
@@ -71,6 +71,7 @@ no_file word rows other another none (Request.ReplayLogStates file composition) 
 no_file word rows other another none (Request.ReplayInvariants file composition) h = let z : None ≡ Some file.now = sym none ∙ h.1.0 in cc
 no_file word rows other another none (Request.Log file composition) h = let z : None ≡ Some file.now = sym none ∙ h.1.0 in cc
 no_file word rows other another none (Request.Monitor file composition) h = let z : None ≡ Some file.now = sym none ∙ h.1.0 in cc
+no_file word rows other another none (Request.Watch file compositions first counts) h = let z : None ≡ Some file.now = sym none ∙ h.1 in cc
 no_file word rows other another none (Request.Chart file composition) h = let z : None ≡ Some file.now = sym none ∙ h.1.0 in cc
 no_file word rows other another none (Request.Graph file composition) h = let z : None ≡ Some file.now = sym none ∙ h.1.0 in cc
 no_file word rows other another none (Request.Run s) h = let z : None ≡ Some s.file.now = sym none ∙ h.2.names.0 in cc
@@ -91,6 +92,7 @@ no_explanation rows none (Request.ReplayLogStates file composition) h = apart (c
 no_explanation rows none (Request.ReplayInvariants file composition) h = apart (codes "explain") (codes "replay") refl refl h.0.0
 no_explanation rows none (Request.Log file composition) h = apart (codes "explain") (codes "log") refl refl h.0
 no_explanation rows none (Request.Monitor file composition) h = apart (codes "explain") (codes "monitor") refl refl h.0
+no_explanation rows none (Request.Watch file compositions first counts) h = apart (codes "explain") (codes "watch") refl refl h.0
 no_explanation rows none (Request.Chart file composition) h = apart (codes "explain") (codes "chart") refl refl h.0
 no_explanation rows none (Request.Graph file composition) h = apart (codes "explain") (codes "graph") refl refl h.0
 no_explanation rows none (Request.Run s) h = apart (codes "explain") (codes "run") refl refl h.0
@@ -110,6 +112,7 @@ no_out rows none (Request.ReplayLogStates file composition) h = apart (codes "co
 no_out rows none (Request.ReplayInvariants file composition) h = apart (codes "compile") (codes "replay") refl refl h.0.0
 no_out rows none (Request.Log file composition) h = apart (codes "compile") (codes "log") refl refl h.0
 no_out rows none (Request.Monitor file composition) h = apart (codes "compile") (codes "monitor") refl refl h.0
+no_out rows none (Request.Watch file compositions first counts) h = apart (codes "compile") (codes "watch") refl refl h.0
 no_out rows none (Request.Chart file composition) h = apart (codes "compile") (codes "chart") refl refl h.0
 no_out rows none (Request.Graph file composition) h = apart (codes "compile") (codes "graph") refl refl h.0
 no_out rows none (Request.Run s) h = apart (codes "compile") (codes "run") refl refl h.0
@@ -120,6 +123,26 @@ no_out rows none (Request.Dump file) h = apart (codes "compile") (codes "dump") 
 no_out rows none (Request.Explain topic) h = apart (codes "compile") (codes "explain") refl refl h.0
 no_out rows none Request.Library h = apart (codes "compile") (codes "library") refl refl h
 
+-- where no specification is named
+pub no_specification : (rows : List Row) → all_of (codes "comp") rows ≡ None → AsksNothing (Some (codes "watch", rows))
+no_specification rows none (Request.Replay file composition) h = apart (codes "watch") (codes "replay") refl refl h.0.0
+no_specification rows none (Request.ReplayStates file composition) h = apart (codes "watch") (codes "replay") refl refl h.0.0
+no_specification rows none (Request.ReplayLog file composition) h = apart (codes "watch") (codes "replay") refl refl h.0.0
+no_specification rows none (Request.ReplayLogStates file composition) h = apart (codes "watch") (codes "replay") refl refl h.0.0
+no_specification rows none (Request.ReplayInvariants file composition) h = apart (codes "watch") (codes "replay") refl refl h.0.0
+no_specification rows none (Request.Log file composition) h = apart (codes "watch") (codes "log") refl refl h.0
+no_specification rows none (Request.Monitor file composition) h = apart (codes "watch") (codes "monitor") refl refl h.0
+no_specification rows none (Request.Watch file compositions first counts) h = let z : None ≡ Some (texts compositions.now) = sym none ∙ h.2 in cc
+no_specification rows none (Request.Chart file composition) h = apart (codes "watch") (codes "chart") refl refl h.0
+no_specification rows none (Request.Graph file composition) h = apart (codes "watch") (codes "graph") refl refl h.0
+no_specification rows none (Request.Run s) h = apart (codes "watch") (codes "run") refl refl h.0
+no_specification rows none (Request.Seeds s) h = apart (codes "watch") (codes "run") refl refl h.0
+no_specification rows none (Request.Check file compositions) h = apart (codes "watch") (codes "check") refl refl h.0
+no_specification rows none (Request.Compile file out composition) h = apart (codes "watch") (codes "compile") refl refl h.0
+no_specification rows none (Request.Dump file) h = apart (codes "watch") (codes "dump") refl refl h.0
+no_specification rows none (Request.Explain topic) h = apart (codes "watch") (codes "explain") refl refl h.0
+no_specification rows none Request.Library h = apart (codes "watch") (codes "library") refl refl h
+
 -- where the invariants of a list are asked for
 pub no_log : (word : Text) (rows : List Row) → word ≡ codes "replay" → is_set (codes "log") rows ≡ false → is_set (codes "invariants") rows ≡ true → AsksNothing (Some (word, rows))
 no_log word rows is log invariants (Request.Replay file composition) h = false≢true (sym h.0.2 ∙ invariants)
@@ -129,6 +152,7 @@ no_log word rows is log invariants (Request.ReplayLogStates file composition) h 
 no_log word rows is log invariants (Request.ReplayInvariants file composition) h = false≢true (sym log ∙ h.0.1)
 no_log word rows is log invariants (Request.Log file composition) h = apart (codes "replay") (codes "log") refl refl (sym is ∙ h.0)
 no_log word rows is log invariants (Request.Monitor file composition) h = apart (codes "replay") (codes "monitor") refl refl (sym is ∙ h.0)
+no_log word rows is log invariants (Request.Watch file compositions first counts) h = apart (codes "replay") (codes "watch") refl refl (sym is ∙ h.0)
 no_log word rows is log invariants (Request.Chart file composition) h = apart (codes "replay") (codes "chart") refl refl (sym is ∙ h.0)
 no_log word rows is log invariants (Request.Graph file composition) h = apart (codes "replay") (codes "graph") refl refl (sym is ∙ h.0)
 no_log word rows is log invariants (Request.Run s) h = apart (codes "replay") (codes "run") refl refl (sym is ∙ h.0)
@@ -148,6 +172,7 @@ no_both word rows is invariants states (Request.ReplayLogStates file composition
 no_both word rows is invariants states (Request.ReplayInvariants file composition) h = false≢true (sym h.0.3 ∙ states)
 no_both word rows is invariants states (Request.Log file composition) h = apart (codes "replay") (codes "log") refl refl (sym is ∙ h.0)
 no_both word rows is invariants states (Request.Monitor file composition) h = apart (codes "replay") (codes "monitor") refl refl (sym is ∙ h.0)
+no_both word rows is invariants states (Request.Watch file compositions first counts) h = apart (codes "replay") (codes "watch") refl refl (sym is ∙ h.0)
 no_both word rows is invariants states (Request.Chart file composition) h = apart (codes "replay") (codes "chart") refl refl (sym is ∙ h.0)
 no_both word rows is invariants states (Request.Graph file composition) h = apart (codes "replay") (codes "graph") refl refl (sym is ∙ h.0)
 no_both word rows is invariants states (Request.Run s) h = apart (codes "replay") (codes "run") refl refl (sym is ∙ h.0)

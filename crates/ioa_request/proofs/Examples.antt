@@ -177,3 +177,22 @@ ten_written = refl
 ten_spelled : numbered_key 10 ≡ replicate 31 0 ++ (16 ∷ [])
 unfolding numbered_key numbered_digits digits decode_pairs
 ten_spelled = refl
+
+-- the file and the specifications of a watch, and whether the first refusal is enough
+watched : List Text → Option (Text × Option Text × Option (List Text) × Bool)
+watched words = option_map (λ p. (p.0, first_of (codes "FILE") p.1, all_of (codes "comp") p.1, is_set (codes "first") p.1)) (subcommand_of ioac_app words)
+
+watched_by_two :
+    watched (codes "ioac" ∷ codes "watch" ∷ codes "f" ∷ codes "--comp" ∷ codes "A" ∷ codes "--first" ∷ codes "--comp" ∷ codes "B" ∷ [])
+    ≡ Some (codes "watch", Some (codes "f"), Some (codes "A" ∷ codes "B" ∷ []), true)
+unfolding watched clap_on_literals
+watched_by_two = refl
+
+two_specifications : fault_of ioac_app (codes "ioac" ∷ codes "watch" ∷ codes "f" ∷ codes "--comp" ∷ codes "A" ∷ codes "--comp" ∷ codes "B" ∷ []) ≡ []
+unfolding clap_on_literals
+two_specifications = refl
+
+-- without a specification nothing is watched
+watched_by_none : fault_of ioac_app (codes "ioac" ∷ codes "watch" ∷ codes "f" ∷ []) ≡ kinds.MissingRequiredArgument ∷ []
+unfolding clap_on_literals
+watched_by_none = refl

@@ -11,7 +11,7 @@ use Rattle.clap.specs.declared.builder.command.Command.TheViews.{out-Command}
 use Rattle.ioa_request.specs.declared.request.Request.{Request}
 use Rattle.ioa_request.specs.declared.seeds.Seeds.{Seeds}
 use Rattle.ioa_request.specs.declared.settings.Settings.{Settings}
-use Rattle.ioa_request.specs.Pasted.{IsPasted}
+use Rattle.ioa_request.specs.Pasted.{IsPasted, texts}
 use Rattle.ioa_request.specs.Seeds.{range_in}
 use Rattle.ioa_request.specs.Settings.{source_in, source_of, turns_in}
 
@@ -29,6 +29,14 @@ text_rule = record (new_rule (codes "TEXT")) { required = true; range = Some (re
 -- `--comp NAME`
 abbrev pub comp_rule : Rule
 comp_rule = record (new_rule (codes "comp")) { long = Some (codes "comp"); value_names = 1 }
+
+-- `--comp SPEC`, once for each specification, and for one at least
+abbrev pub specification_rule : Rule
+specification_rule = record (new_rule (codes "comp")) { long = Some (codes "comp"); action = Some ArgAction.Append; value_names = 1; required = true }
+
+-- `--first`
+abbrev pub first_rule : Rule
+first_rule = record (new_rule (codes "first")) { long = Some (codes "first"); action = Some ArgAction.SetTrue }
 
 -- `--log`
 abbrev pub log_rule : Rule
@@ -107,6 +115,9 @@ log_app = with_rule (with_rule (with_rule (new_app (codes "log")) file_rule) com
 abbrev pub monitor_app : App
 monitor_app = with_rule (with_rule (with_rule (new_app (codes "monitor")) file_rule) comp_rule) explain_rule
 
+abbrev pub watch_app : App
+watch_app = with_rule (with_rule (with_rule (with_rule (new_app (codes "watch")) file_rule) specification_rule) first_rule) explain_rule
+
 abbrev pub chart_app : App
 chart_app = with_rule (with_rule (with_rule (new_app (codes "chart")) file_rule) comp_rule) explain_rule
 
@@ -129,9 +140,11 @@ ioac_app =
     (with_subcommand
     (with_subcommand
     (with_subcommand
+    (with_subcommand
     (with_subcommand (with_subcommand (with_subcommand (with_subcommand (with_subcommand (with_subcommand bare_app check_app.top) compile_app.top) dump_app.top) replay_app.top) log_app.top)
     run_app.top)
     monitor_app.top)
+    watch_app.top)
     chart_app.top)
     graph_app.top)
     explain_app.top)
@@ -198,6 +211,9 @@ IsAskedBy (Some found) (Request.ReplayInvariants file composition) =
     IsReplayWith true true false found × Names found.1 file.now (option_copied composition)
 IsAskedBy (Some found) (Request.Log file composition) = (found.0 ≡ codes "log") × Names found.1 file.now (option_copied composition)
 IsAskedBy (Some found) (Request.Monitor file composition) = (found.0 ≡ codes "monitor") × Names found.1 file.now (option_copied composition)
+IsAskedBy (Some found) (Request.Watch file compositions first counts) =
+    (found.0 ≡ codes "watch") × (first_of (codes "FILE") found.1 ≡ Some file.now) × (all_of (codes "comp") found.1 ≡ Some (texts compositions.now))
+    × (is_set (codes "first") found.1 ≡ first) × (is_set (codes "explain") found.1 ≡ counts)
 IsAskedBy (Some found) (Request.Chart file composition) = (found.0 ≡ codes "chart") × Names found.1 file.now (option_copied composition)
 IsAskedBy (Some found) (Request.Graph file composition) = (found.0 ≡ codes "graph") × Names found.1 file.now (option_copied composition)
 IsAskedBy (Some found) (Request.Run settings) = (found.0 ≡ codes "run") × (first_of (codes "seeds") found.1 ≡ None) × AreSettings found.1 settings

@@ -9,6 +9,7 @@ mod request;
 mod run_usage;
 mod seeds;
 mod settings;
+mod watch_usage;
 
 // Words, and what they spell.
 mod fields;

@@ -15,7 +15,7 @@ use clap::ArgMatches;
 
 /// The request of a command line without a fault. None where a word is missing, which a parse rules out, where there is nothing to explain,
 /// where the invariants of a list are asked for, or invariants and states, or where the settings of a run, or of runs by many seeds, are none.
-pub fn read_request<'a>(matches: &ArgMatches<'a>) -> Option<Request<'a>>
+pub fn read_request<'a>(matches: &'a ArgMatches<'a>) -> Option<Request<'a>>
     ensures some { IfSome result (λ asked. IsAskedBy (subcommand_rows_of matches.now) asked) }
     ensures none { IfNone result ((asked : Request) → IsAskedBy (subcommand_rows_of matches.now) asked → ⊥) }
 {
@@ -25,6 +25,7 @@ pub fn read_request<'a>(matches: &ArgMatches<'a>) -> Option<Request<'a>>
         "log" => read_log(found),
         "run" => read_run(found),
         "monitor" => read_monitor(found),
+        "watch" => read_watch(found),
         "chart" => read_chart(found),
         "graph" => read_graph(found),
         "check" => read_check(found),
@@ -112,6 +113,22 @@ fn read_monitor<'a>(found: &ArgMatches<'a>) -> Option<Request<'a>>
 {
     let (file, composition) = read_names(found)?;
     Some(Request::Monitor { file, composition })
+}
+
+fn read_watch<'a>(found: &'a ArgMatches<'a>) -> Option<Request<'a>>
+    ensures some { IfSome result (λ asked. IsAskedBy (Some (codes "watch", rows_of (found_of found.now))) asked) }
+    ensures none { IfNone result ((asked : Request) → IsAskedBy (Some (codes "watch", rows_of (found_of found.now))) asked → ⊥) }
+{
+    let file = found.get_str("FILE")?;
+    let compositions = found.get_strs("comp")?;
+    let first = is_set(found, "first");
+    let counts = is_set(found, "explain");
+    Some(Request::Watch {
+        file,
+        compositions,
+        first,
+        counts,
+    })
 }
 
 fn read_chart<'a>(found: &ArgMatches<'a>) -> Option<Request<'a>>

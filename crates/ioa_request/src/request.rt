@@ -8,6 +8,7 @@ use crate::run_usage::run_command;
 use crate::seeds::Seeds;
 use crate::settings::Settings;
 use crate::topic::Topic;
+use crate::watch_usage::watch_command;
 use clap::{Arg, ArgAction, ArgMatches, Command, Error};
 use std::alloc::{AllocError, Global};
 use std::convert::AsStr;
@@ -53,6 +54,15 @@ pub enum Request<'a> {
     Monitor {
         file: &'a str,
         composition: Option<&'a str>,
+    },
+    /// To watch the stream of actions on standard input by these compositions of a source.
+    Watch {
+        file: &'a str,
+        compositions: &'a [&'a str],
+        /// Whether the first refusal is enough.
+        first: bool,
+        /// Whether it is told what each of them counted.
+        counts: bool,
     },
     /// To draw the log on standard input, as a chart of what a composition of a source, or an object, does.
     Chart {
@@ -414,6 +424,7 @@ fn program<'a>(alloc: Global) -> Result<Command<'a>, AllocError>
     let command = with(command, log_command(alloc))?;
     let command = with(command, run_command(alloc))?;
     let command = with(command, monitor_command(alloc))?;
+    let command = with(command, watch_command(alloc))?;
     let command = with(command, chart_command(alloc))?;
     let command = with(command, graph_command(alloc))?;
     let command = with(command, explain_command(alloc))?;

@@ -1,6 +1,7 @@
 pub mod Carried
 pub mod CarriedRuns
 pub mod Composed
+pub mod Counting
 pub mod Declared
 pub mod Delivering
 pub mod Given
@@ -23,8 +24,10 @@ pub mod SeedCuts
 pub mod SeedLines
 pub mod SeedsServed
 pub mod Sharing
+pub mod Specified
 pub mod Streams
 pub mod Subjects
 pub mod Traced
 pub mod Unrun
 pub mod Wanting
+pub mod Watching

@@ -2,6 +2,7 @@ pub mod Alone
 pub mod Carried
 pub mod Checks
 pub mod Compiling
+pub mod Counting
 pub mod Delivering
 pub mod Devices
 pub mod Dumps
@@ -30,4 +31,5 @@ pub mod Statuses
 pub mod Streams
 pub mod Subjects
 pub mod Traces
+pub mod Watching
 pub mod WordLists

@@ -7,6 +7,7 @@ use Rattle.ioa_links.specs.Library.{library_text}
 use Rattle.ioa_run.specs.declared.run_err.RunErr.{RunErr}
 use Rattle.ioa_serving.specs.declared.failure.Failure.{Failure}
 use Rattle.ioa_request.specs.declared.request.Request.{Request}
+use Rattle.ioa_request.specs.Pasted.{texts}
 use Rattle.ioa_serving.specs.declared.run.Ran.{Ran}
 use Rattle.ioa_serving.specs.declared.served.Served.{Served}
 use Rattle.ioa_serving.specs.declared.store.StoreErr.{StoreErr}
@@ -26,6 +27,7 @@ use Rattle.ioa_serving.specs.Alone.{IsRunServed, IsRunUnserved}
 use Rattle.ioa_serving.specs.Seeds.{IsSeedsServed, IsSeedsUnserved}
 use Rattle.ioa_serving.specs.Failing.{IsFailure, IsInvariantFailure, IsLogReplayFailure, IsMonitorFailure, IsStatesFailure, IsUnwritten, BeginsReplayOf, BeginsLogOf, BeginsLogStatesOf, BeginsFoundOf, BeginsMonitorOf, BeginsStatesOf}
 use Rattle.ioa_serving.specs.Statuses.{answer_status, ending_status, found_status}
+use Rattle.ioa_serving.specs.Watching.{IsWatchFailure, IsWatchServed}
 
 -- what is left to be told
 abbrev pub reports_of : Served → Option (List ℕ)
@@ -51,9 +53,9 @@ run_failure RunErr.EndedByFault = Failure.EndedByFault
 run_failure RunErr.OutOfMemory = Failure.OutOfMemory
 
 -- the file may hold a text such that the list or the log was replayed, or monitored, or the log of the list's run was written, in the
--- composition that is asked for, the last one where none is, with or without the states in which it ends; or the log or the composition was drawn; or that passed the check; or its object was put
+-- composition that is asked for, the last one where none is, with or without the states in which it ends; or the stream was watched by those that are asked for; or the log or the composition was drawn; or that passed the check; or its object was put
 -- in a file; or it was dumped; or a composition was run, or so it was by many seeds; or the topic was explained; or the library's text was written. Reports of a run are left to be told, and the
--- workers to which memory was refused
+-- workers to which memory was refused; or what the specifications of a watch counted
 abbrev pub IsServed : Files → Request → Change → Change → Option (List ℕ) → List ℕ → Status → Type 0
 IsServed f (Request.Replay file composition) input output told wants status =
     (text : List ℕ) × f.holds file.now text
@@ -76,6 +78,9 @@ IsServed f (Request.Log file composition) input output told wants status =
 IsServed f (Request.Monitor file composition) input output told wants status =
     (text : List ℕ) × f.holds file.now text
     × ((answer : Option Ending) × IfSome input.before.bytes (λ xs. IsMonitoring text (option_copied composition) xs answer output.before.bytes output.after.bytes) × (status ≡ answer_status answer)) × (told ≡ None)
+IsServed f (Request.Watch file compositions first counts) input output told wants status =
+    (text : List ℕ) × f.holds file.now text
+    × IsWatchServed text (texts compositions.now) first counts input.before.bytes output.before.bytes output.after.bytes told status
 IsServed f (Request.Chart file composition) input output told wants status =
     (text : List ℕ) × f.holds file.now text
     × ((end : Ending) × IfSome input.before.bytes (λ xs. IsLogChart text (option_copied composition) xs end output.before.bytes output.after.bytes) × (status ≡ ending_status end)) × (told ≡ None)
@@ -96,7 +101,7 @@ IsServed f Request.Library input output told wants status = Wrote output library
 abbrev pub IsUnread : Type 0 → Change → Failure → Type 0
 IsUnread lacks output e = (((e ≡ Failure.Io) × lacks) ⊎ (e ≡ Failure.OutOfMemory)) × Untouched output
 
--- The file is not read, or it may hold a text with which the replay, the log of a list, the monitor, the chart, the graph, the check or the dump fails so; or no object is
+-- The file is not read, or it may hold a text with which the replay, the log of a list, the monitor, the watch, the chart, the graph, the check or the dump fails so; or no object is
 -- made; or nothing is run, or the run's text, or that of runs by many seeds, is not all written; or the topic is not explained; or the library's text is not written. The reader of standard input and the writer failed
 -- where these say so.
 abbrev pub IsUnserved : Files → Request → Change → Change → List ℕ → Failure → Type 0
@@ -128,6 +133,10 @@ IsUnserved f (Request.Monitor file composition) input output wants e =
     IsUnread (f.lacks file.now) output e
     ⊎ ((text : List ℕ) × f.holds file.now text × IsMonitorFailure text (option_copied composition) input.before.bytes (Failed input ⊎ Failed output) e
     × IsUnwritten (BeginsMonitorOf text (option_copied composition) input.before.bytes) output.before.bytes output.after.bytes e)
+IsUnserved f (Request.Watch file compositions first counts) input output wants e =
+    IsUnread (f.lacks file.now) output e
+    ⊎ ((text : List ℕ) × f.holds file.now text
+    × IsWatchFailure text (texts compositions.now) first input.before.bytes (Failed input ⊎ Failed output) output.before.bytes output.after.bytes e)
 IsUnserved f (Request.Chart file composition) input output wants e =
     IsUnread (f.lacks file.now) output e
     ⊎ ((text : List ℕ) × f.holds file.now text × IsLogReplayFailure text (option_copied composition) input.before.bytes (Failed input ⊎ Failed output) e
@@ -148,7 +157,7 @@ IsUnserved f (Request.Dump file) input output wants e =
 IsUnserved f (Request.Explain topic) input output wants e = IsUnexplained topic (Failed output) output.before.bytes output.after.bytes e
 IsUnserved f Request.Library input output wants e = IsUnlisted (Failed output) output.before.bytes output.after.bytes e
 
--- a list or a log is to be read
+-- a list, a log or a stream is to be read
 abbrev pub IsReading : Request → Type 0
 IsReading (Request.Replay file composition) = Unit {0}
 IsReading (Request.ReplayStates file composition) = Unit {0}
@@ -157,6 +166,7 @@ IsReading (Request.ReplayLogStates file composition) = Unit {0}
 IsReading (Request.ReplayInvariants file composition) = Unit {0}
 IsReading (Request.Log file composition) = Unit {0}
 IsReading (Request.Monitor file composition) = Unit {0}
+IsReading (Request.Watch file compositions first counts) = Unit {0}
 IsReading (Request.Chart file composition) = Unit {0}
 IsReading (Request.Graph file composition) = ⊥
 IsReading (Request.Run settings) = ⊥
@@ -176,6 +186,7 @@ IsRunning (Request.ReplayLogStates file composition) = ⊥
 IsRunning (Request.ReplayInvariants file composition) = ⊥
 IsRunning (Request.Log file composition) = ⊥
 IsRunning (Request.Monitor file composition) = ⊥
+IsRunning (Request.Watch file compositions first counts) = ⊥
 IsRunning (Request.Chart file composition) = ⊥
 IsRunning (Request.Graph file composition) = ⊥
 IsRunning (Request.Run settings) = Unit {0}
@@ -195,6 +206,7 @@ IsSaving (Request.ReplayLogStates file composition) = ⊥
 IsSaving (Request.ReplayInvariants file composition) = ⊥
 IsSaving (Request.Log file composition) = ⊥
 IsSaving (Request.Monitor file composition) = ⊥
+IsSaving (Request.Watch file compositions first counts) = ⊥
 IsSaving (Request.Chart file composition) = ⊥
 IsSaving (Request.Graph file composition) = ⊥
 IsSaving (Request.Run settings) = ⊥

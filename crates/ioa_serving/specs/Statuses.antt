@@ -1,5 +1,5 @@
 -- The exit statuses: their numbers, and which one a run has.
-use Rattle.std.specs.Prelude.{ℕ, Option, Some, None}
+use Rattle.std.specs.Prelude.{ℕ, Bool, true, false, Option, Some, None}
 use Rattle.ioa_lex.specs.declared.refusal.Refusal.{Refusal}
 use Rattle.ioa_tree.specs.Runs.{Ending, done, not_an_action_at, not_enabled_at, fault_at}
 use Rattle.ioa_log.specs.declared.failure.LogErr.{LogErr}
@@ -32,6 +32,11 @@ found_status (unbroken end) = ending_status end
 abbrev pub answer_status : Option Ending → Status
 answer_status None = Status.Done
 answer_status (Some end) = Status.NotAccepted
+
+-- of a watch in which something is refused, or nothing
+abbrev pub watch_status : Bool → Status
+watch_status true = Status.NotAccepted
+watch_status false = Status.Done
 
 -- of a source that is refused
 abbrev pub refusal_status : Refusal → Status

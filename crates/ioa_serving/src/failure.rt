@@ -13,7 +13,7 @@ use ioa_object::ObjErr;
 use ioa_request::Code;
 use ioa_run::RunErr;
 use ioa_syntax::Refusal;
-use std::alloc::AllocError;
+use std::alloc::{AllocError, AllocFailed};
 use std::fmt;
 
 /// Why the program did not do what was asked. It is printed by its code and details.
@@ -256,6 +256,17 @@ impl From<AllocError> for Failure {
     ghost from_gives = { λ _ e. e ≡ failures.OutOfMemory };
 
     fn from(_error: AllocError) -> Failure {
+        Failure::OutOfMemory
+    }
+}
+
+impl<T: Drop> From<AllocFailed<T>> for Failure {
+    ghost use Rattle.std.specs.Prelude.{◌≡◌};
+    ghost use Rattle.ioa_serving.specs.declared.failure.Failure.TheVariants as failures;
+
+    ghost from_gives = { λ _ e. e ≡ failures.OutOfMemory };
+
+    fn from(_error: AllocFailed<T>) -> Failure {
         Failure::OutOfMemory
     }
 }

@@ -25,7 +25,10 @@ mod log_chart;
 mod log_replay;
 mod monitor;
 mod replay;
+mod specifications;
 mod states_replay;
+mod stream_counts;
+mod stream_watch;
 
 // Runs.
 mod ready;
@@ -80,3 +83,4 @@ pub use served::{Served, silent};
 pub use states_replay::{replay_log_states_text, replay_states_text};
 pub use status::{Status, status_of};
 pub use store::{Store, StoreErr};
+pub use stream_watch::watch_text;

@@ -5,7 +5,7 @@ ghost use Rattle.ioa_serving.specs.Serving.{reports_of};
 
 use crate::status::Status;
 
-/// What a request that was served comes to: the exit status, and the reports of a run, where they are to be told.
+/// What a request that was served comes to: the exit status, and the reports of a run or what a watch counted, where they are to be told.
 #[derive(Drop)]
 pub struct Served {
     pub status: Status,

@@ -17,3 +17,4 @@ mod rooms;
 mod schedules;
 mod threads;
 mod tokens;
+mod watched;

@@ -1,5 +1,6 @@
 -- What is told of a composition of a source that is refused: the line of the component, or of the hidden name, at which it is, and how.
-use Rattle.std.specs.Prelude.{◌≡◌, ◌⊎◌, ◌++◌, ℕ, List, Option, None, Some, codes}
+use Rattle.std.specs.Prelude.{◌≡◌, ◌⊎◌, ◌++◌, ℕ, List, [], Option, None, Some, codes}
+use Rattle.std.specs.List.{Contains}
 use Rattle.std.specs.Option.{option_and_then}
 use Rattle.ioa_value.specs.Actions.{Name}
 use Rattle.ioa_lex.specs.declared.refusal.Refusal.{Refusal}
@@ -15,6 +16,7 @@ use Rattle.ioa_compile.specs.Programs.{Prog}
 use Rattle.ioa_causes.specs.Composing.{IsRefusedOn, TellsComposed, declared, missing_words}
 use Rattle.ioa_causes.specs.Worded.{wording}
 use Rattle.ioa_request.specs.declared.request.Request.{Request}
+use Rattle.ioa_request.specs.Pasted.{texts}
 use Rattle.ioa_serving.specs.declared.failure.Failure.{Failure}
 use Rattle.ioa_serving.specs.FailureCodes.{failure_code, refusal_code}
 use Rattle.ioa_serving.specs.Headline.{IsObjectOf, Spells}
@@ -24,9 +26,33 @@ use Rattle.ioac.specs.Remarks.{IsChecking, source_of}
 abbrev pub composition_of : Request → Option Name
 composition_of request = option_and_then (λ p. p.1) (source_of request)
 
--- a check asks of each composition, others of the one that is named, or of the last
+-- the specifications that a watch names
+abbrev pub specifications_of : Request → List Name
+specifications_of (Request.Watch file compositions first counts) = texts compositions.now
+specifications_of (Request.Replay file composition) = []
+specifications_of (Request.ReplayStates file composition) = []
+specifications_of (Request.ReplayLog file composition) = []
+specifications_of (Request.ReplayLogStates file composition) = []
+specifications_of (Request.ReplayInvariants file composition) = []
+specifications_of (Request.Log file composition) = []
+specifications_of (Request.Monitor file composition) = []
+specifications_of (Request.Chart file composition) = []
+specifications_of (Request.Graph file composition) = []
+specifications_of (Request.Run settings) = []
+specifications_of (Request.Seeds seeds) = []
+specifications_of (Request.Check file compositions) = []
+specifications_of (Request.Compile file out composition) = []
+specifications_of (Request.Dump file) = []
+specifications_of (Request.Explain topic) = []
+specifications_of Request.Library = []
+
+-- the composition that it names, or the last; of a watch one of those
+abbrev pub IsOf : Request → Option Name → Type 0
+IsOf request name = (name ≡ composition_of request) ⊎ ((x : Name) × Contains (specifications_of request) x × (name ≡ Some x))
+
+-- a check asks of each composition
 abbrev pub Asks : Request → Option Name → Type 0
-Asks request name = IsChecking request ⊎ (name ≡ composition_of request)
+Asks request name = IsChecking request ⊎ IsOf request name
 
 -- how it is refused, or what the code says in general
 abbrev pub TellsHow : List Token → List Declaration → Assembly → Refusal → Failure → List ℕ → Type 0
@@ -57,7 +83,7 @@ IsRefusedAt request text e line words =
 
 -- a source has none of the name, or none at all; and which it has
 abbrev pub IsMissingIn : Request → List ℕ → List ℕ → Type 0
-IsMissingIn request text words = (ds : List Declaration) × Spells text (tree_of ds) × (words ≡ missing_words (composition_of request) (declared ds))
+IsMissingIn request text words = (ds : List Declaration) × (name : Option Name) × Spells text (tree_of ds) × IsOf request name × (words ≡ missing_words name (declared ds))
 
 -- an object is of another
 abbrev pub own_words : Name → List ℕ

@@ -1,5 +1,5 @@
 -- What is told, where an explanation is asked for, of a request that was served: by what the files may hold now, and by what was heard of standard input.
-use Rattle.std.specs.Prelude.{◌≡◌, ◌≢◌, ◌⊎◌, ◌++◌, ℕ, true, false, List, [], Option, Some, None, codes}
+use Rattle.std.specs.Prelude.{◌≡◌, ◌≢◌, ◌⊎◌, ◌++◌, ℕ, true, false, List, [], Option, Some, None, codes, slice_get}
 use Rattle.std.specs.Borrow.{Bor}
 use Rattle.std.specs.Fmt.{decimal}
 use Rattle.std.specs.Option.{option_copied, option_map, option_map_or}
@@ -49,6 +49,7 @@ source_of (Request.ReplayLogStates file composition) = Some (file.now, option_co
 source_of (Request.ReplayInvariants file composition) = Some (file.now, option_copied composition)
 source_of (Request.Log file composition) = Some (file.now, option_copied composition)
 source_of (Request.Monitor file composition) = Some (file.now, option_copied composition)
+source_of (Request.Watch file compositions first counts) = Some (file.now, option_copied (slice_get compositions.now 0))
 source_of (Request.Chart file composition) = Some (file.now, option_copied composition)
 source_of (Request.Graph file composition) = Some (file.now, option_copied composition)
 source_of (Request.Run settings) = Some (settings.file.now, option_copied settings.composition)
@@ -134,6 +135,7 @@ Explains (Request.ReplayLogStates file composition) (Ended.Served status) t befo
 Explains (Request.Chart file composition) (Ended.Served status) t before after = TellsLogEnd t before after
 Explains (Request.ReplayInvariants file composition) (Ended.Served status) t before after = OfLog t (λ log. OfHosts t (λ h. TellsInspected t h log)) before after
 Explains (Request.Monitor file composition) (Ended.Served status) t before after = OfLog t (λ log. OfHosts t (λ h. TellsMonitored t h (performed_in log))) before after
+Explains (Request.Watch file compositions first counts) (Ended.Served status) t before after = after ≡ before
 Explains (Request.Run settings) (Ended.Served status) t before after = TellsRunEnd status t before after
 Explains (Request.Seeds seeds) (Ended.Served status) t before after = after ≡ before
 Explains (Request.Graph file composition) (Ended.Served status) t before after = after ≡ before
@@ -160,6 +162,7 @@ TellsObjectMonitor object name input before after = (p : Option Prog) × IsProgr
 -- of a monitor alone, where a request was served
 abbrev pub TellsOfObject : Request → List ℕ → Option Name → List ℕ → List ℕ → List ℕ → Type 0
 TellsOfObject (Request.Monitor file composition) object name input before after = TellsObjectMonitor object name input before after
+TellsOfObject (Request.Watch file compositions first counts) object name input before after = after ≡ before
 TellsOfObject (Request.Replay file composition) object name input before after = after ≡ before
 TellsOfObject (Request.ReplayStates file composition) object name input before after = after ≡ before
 TellsOfObject (Request.Log file composition) object name input before after = after ≡ before
@@ -213,6 +216,7 @@ IsChecking (Request.ReplayLogStates file composition) = ⊥
 IsChecking (Request.ReplayInvariants file composition) = ⊥
 IsChecking (Request.Log file composition) = ⊥
 IsChecking (Request.Monitor file composition) = ⊥
+IsChecking (Request.Watch file compositions first counts) = ⊥
 IsChecking (Request.Chart file composition) = ⊥
 IsChecking (Request.Graph file composition) = ⊥
 IsChecking (Request.Run settings) = ⊥

@@ -2,7 +2,8 @@
 
 ghost use Rattle.std.specs.Prelude.{◌≡◌, ℕ, List, true, map, IfOk, IfErr};
 ghost use Rattle.ioa_log.specs.Failing.{FailedOnceAtMost};
-ghost use Rattle.ioa_request.specs.CommandLine.{IsAsked};
+ghost use Rattle.clap.specs.Words.{Text, subcommand_of, subcommand_rows_of};
+ghost use Rattle.ioa_request.specs.CommandLine.{HasNoFault, IsAsked, IsAskedBy, ioac_app};
 ghost use Rattle.ioac.specs.Commands.{AreWantsOf, IsAnswered, IsAnsweredAs, IsFinished, IsCommand};
 ghost use Rattle.ioa_serving.specs.Serving.{IsReading, IsSaving, IsServed, IsUnserved, reports_of, wants_of};
 ghost use Rattle.ioa_serving.specs.Devices.{change, files, world};
@@ -18,6 +19,7 @@ use crate::served::finish;
 use crate::tees::Tee;
 use crate::telling::{put, reported};
 use crate::usage::{told, told_unasked};
+use clap::ArgMatches;
 use ioa_log::{Device, InputDevice, OutputDevice};
 use ioa_request::{Request, is_explained, parse, read_request};
 use ioa_serving::{Failure, Ran, Served, Status, Store};
@@ -88,14 +90,43 @@ fn perform<
     ensures once { FailedOnceAtMost (R.failure_count input.old.inner) (R.failure_count input.new.inner) × FailedOnceAtMost (W.failure_count output.old) (W.failure_count output.new) × FailedOnceAtMost (E.failure_count errors.old) (E.failure_count errors.new) }
 {
     match parse(alloc, words) {
-        Ok(matches) => match read_request(&matches) {
-            Some(asked) => {
-                let explains = is_explained(&matches);
-                answer_as(rt, alloc, &asked, explains, store, input, output, errors)
-            }
-            None => told_unasked(alloc, &matches, errors),
-        },
+        Ok(matches) => perform_read(rt, alloc, &matches, store, input, output, errors),
         Err(error) => told(alloc, &error, output, errors),
+    }
+}
+
+/// Does what is read of a command line without a fault.
+fn perform_read<
+    'a,
+    H: Threads + Wait + Clock + Sync,
+    F: Store,
+    R: InputDevice,
+    W: OutputDevice,
+    E: OutputDevice,
+>(
+    rt: &H,
+    alloc: Global,
+    matches: &'a ArgMatches<'a>,
+    store: &mut F,
+    input: &mut Tee<R>,
+    output: &mut W,
+    errors: &mut E,
+) -> Status
+    ensures performs { (words : List Text) → subcommand_rows_of matches.now ≡ subcommand_of ioac_app words → HasNoFault words → IsCommand words
+        (world (files F.holds F.lacks F.begins F.bars F.saves store.old store.new)
+        (change R.remaining R.failure_count input.old.inner input.new.inner) (change W.contents W.failure_count output.old output.new)
+        (change E.contents E.failure_count errors.old errors.new)) result }
+    ensures kept { ((request : Request) → IsAskedBy (subcommand_rows_of matches.now) request → IsSaving request → ⊥) → store.new ≡ store.old }
+    ensures unread { ((request : Request) → IsAskedBy (subcommand_rows_of matches.now) request → IsReading request → ⊥) → input.new.inner ≡ input.old.inner }
+    ensures passed { (result ≡ statuses.Unable → ⊥) → (R.failure_count input.new.inner ≡ R.failure_count input.old.inner) × (W.failure_count output.new ≡ W.failure_count output.old) × (E.failure_count errors.new ≡ E.failure_count errors.old) }
+    ensures once { FailedOnceAtMost (R.failure_count input.old.inner) (R.failure_count input.new.inner) × FailedOnceAtMost (W.failure_count output.old) (W.failure_count output.new) × FailedOnceAtMost (E.failure_count errors.old) (E.failure_count errors.new) }
+{
+    match read_request(matches) {
+        Some(asked) => {
+            let explains = is_explained(matches);
+            answer_as(rt, alloc, &asked, explains, store, input, output, errors)
+        }
+        None => told_unasked(alloc, matches, errors),
     }
 }
 
@@ -155,7 +186,7 @@ fn answer_and_explain<
     ensures passed { (result ≡ statuses.Unable → ⊥) → (R.failure_count input.new.inner ≡ R.failure_count input.old.inner) × (W.failure_count output.new ≡ W.failure_count output.old) × (E.failure_count errors.new ≡ E.failure_count errors.old) }
     ensures once { FailedOnceAtMost (R.failure_count input.old.inner) (R.failure_count input.new.inner) × FailedOnceAtMost (W.failure_count output.old) (W.failure_count output.new) × FailedOnceAtMost (E.failure_count errors.old) (E.failure_count errors.new) }
 {
-    input.keep(alloc);
+    keep_heard(alloc, asked, input);
     let failures = errors.failures();
     let (served, ran, answered) = serve_and_tell(rt, alloc, asked, store, input, output, errors);
     // A device that failed is not called again.
@@ -164,6 +195,15 @@ fn answer_and_explain<
     }
     let text = remarks_or_none(alloc, asked, &served, &ran, store, input.kept());
     put(text.as_str(), answered, errors)
+}
+
+/// Has the reader keep what it gives from now on. Of a stream, which may have no end, nothing is kept.
+fn keep_heard<R: InputDevice>(alloc: Global, asked: &Request<'_>, input: &mut Tee<R>)
+    ensures { input.new.inner ≡ input.old.inner }
+{
+    if !matches!(asked, Request::Watch { .. }) {
+        input.keep(alloc);
+    }
 }
 
 /// Does what is asked, and tells why not.

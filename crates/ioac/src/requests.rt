@@ -19,7 +19,7 @@ use ioa_serving::{
     Failure, Finding, Ran, Served, Status, Store, chart_log_text, check_text, compile_file,
     dump_object, graph_text, log_list_text, monitor_text, replay_invariants_text,
     replay_log_states_text, replay_log_text, replay_states_text, replay_text, run_file,
-    run_seeds_file, silent, status_of, write_library,
+    run_seeds_file, silent, status_of, watch_text, write_library,
 };
 use ioa_system::End;
 use std::alloc::Global;
@@ -30,7 +30,7 @@ use std::time::Clock;
 /// Does what is asked, and answers the exit status with what is left to tell; and the run, where there was one.
 ///
 /// # Errors
-/// `Io` or `OutOfMemory` where the file is not read, and those of the replay, the log, the run, the monitor, the chart, the graph, the check, the object or the dump of
+/// `Io` or `OutOfMemory` where the file is not read, and those of the replay, the log, the run, the monitor, the watch, the chart, the graph, the check, the object or the dump of
 /// what it holds, or of the explanation or the library. Nothing was written then, or, where a device failed, no more than a beginning of the text.
 pub(crate) fn serve<H: Threads + Wait + Clock + Sync, F: Store, R: InputDevice, W: OutputDevice>(
     rt: &H,
@@ -79,6 +79,24 @@ pub(crate) fn serve<H: Threads + Wait + Clock + Sync, F: Store, R: InputDevice, 
         Request::Seeds(seeds) => (run_seeds_file(alloc, seeds, store, output), None),
         Request::Monitor { file, composition } => (
             monitor(alloc, file, *composition, store, input, output),
+            None,
+        ),
+        Request::Watch {
+            file,
+            compositions,
+            first,
+            counts,
+        } => (
+            watch(
+                alloc,
+                file,
+                compositions,
+                *first,
+                *counts,
+                store,
+                input,
+                output,
+            ),
             None,
         ),
         Request::Chart { file, composition } => (
@@ -233,6 +251,34 @@ fn monitor<F: Store, R: InputDevice, W: OutputDevice>(
     let text = store.load(alloc, file)?;
     let answer = monitor_text(alloc, text.as_slice(), composition, input, output)?;
     Ok(silent(status_of_answer(answer)))
+}
+
+/// Watches the stream on standard input.
+fn watch<F: Store, R: InputDevice, W: OutputDevice>(
+    alloc: Global,
+    file: &str,
+    compositions: &[&str],
+    first: bool,
+    counts: bool,
+    store: &F,
+    input: &mut R,
+    output: &mut W,
+) -> Result<Served, Failure>
+    ensures served { IfOk result (λ s. Serves (read_only F.holds F.lacks store.now) (requests.Watch file.entry compositions.entry first counts) (change R.remaining R.failure_count input.old input.new) (change W.contents W.failure_count output.old output.new) s) }
+    ensures refused { IfErr result (λ e. Fails (read_only F.holds F.lacks store.now) (requests.Watch file.entry compositions.entry first counts) (change R.remaining R.failure_count input.old input.new) (change W.contents W.failure_count output.old output.new) e) }
+    ensures passed { (IsErrOf result (Failure.List LogErr.Io) → ⊥) → (R.failure_count input.new ≡ R.failure_count input.old) × (W.failure_count output.new ≡ W.failure_count output.old) }
+    ensures once { FailedOnceAtMost (R.failure_count input.old) (R.failure_count input.new) × FailedOnceAtMost (W.failure_count output.old) (W.failure_count output.new) }
+{
+    let text = store.load(alloc, file)?;
+    watch_text(
+        alloc,
+        text.as_slice(),
+        compositions,
+        first,
+        counts,
+        input,
+        output,
+    )
 }
 
 /// Draws the log on standard input.

@@ -30,3 +30,4 @@ mod shelf;
 mod states;
 mod streams;
 mod turns;
+mod watches;

@@ -1,10 +1,12 @@
 //! What there is to say of a refusal that no line of the file itself breaks: of its composition, at a component or a hidden name; that there is none; or of what it
 //! does unseen.
 
-ghost use Rattle.std.specs.Prelude.{◌≡◌, ◌⊎◌, ◌++◌, ℕ, List, Option, IfOk, IfSome, OnOk, true};
+ghost use Rattle.std.specs.Prelude.{◌≡◌, ◌⊎◌, ◌++◌, ℕ, List, Option, Some, IfOk, IfSome, OnOk, true};
+ghost use Rattle.std.specs.List.{Contains};
 ghost use Rattle.std.specs.Option.{option_copied};
 ghost use Rattle.std.specs.String.{string_bytes};
 ghost use Rattle.ioa_value.specs.Actions.{Name};
+ghost use Rattle.ioa_request.specs.Pasted.{texts};
 ghost use Rattle.ioa_serving.specs.FailureCodes.{refusal_code};
 ghost use Rattle.ioa_serving.specs.Headline.{begins_object};
 ghost use Rattle.ioac.specs.Composed as spec;
@@ -118,8 +120,28 @@ fn asked_in(
     if is_checking(asked) {
         return first_in(alloc, failure, placed);
     }
+    if let Request::Watch { compositions, .. } = asked {
+        return watched_in(alloc, compositions, failure, placed);
+    }
     let name = composition_of(asked);
     picked_in(alloc, failure, placed, name)
+}
+
+/// Where the first of these compositions is refused that is, by this failure.
+fn watched_in(
+    alloc: Global,
+    compositions: &[&str],
+    failure: &Failure,
+    placed: &Placed,
+) -> Result<Option<Said>, OutOfMemory>
+    ensures { IfOk result (λ found. IfSome found (λ said. (name : Name) × Contains (texts compositions.now) name × spec.IsRefusedAs placed.now.tokens.items placed.now.checked (Some name) failure.now said.line (string_bytes said.words))) }
+{
+    for composition in compositions {
+        if let Some(said) = picked_in(alloc, failure, placed, Some(*composition))? {
+            return Ok(Some(said));
+        }
+    }
+    Ok(None)
 }
 
 /// Whether a request checks each composition.
@@ -241,6 +263,46 @@ fn composition_of<'a>(asked: &Request<'a>) -> Option<&'a str>
     }
 }
 
+/// The composition that a request names; of the specifications of a watch the first that is refused, or does something unseen.
+fn composition_at_fault<'a>(
+    alloc: Global,
+    asked: &Request<'a>,
+    bytes: &[u8],
+) -> Result<Option<&'a str>, OutOfMemory>
+    ensures { IfOk result (λ composition. spec.IsOf asked.now (option_copied composition)) }
+{
+    if let Request::Watch { compositions, .. } = asked
+        && let Some(name) = first_at_fault(alloc, compositions, bytes)?
+    {
+        return Ok(Some(name));
+    }
+    Ok(composition_of(asked))
+}
+
+/// The first of these compositions that is refused, or does something unseen. None, where none is by now.
+fn first_at_fault<'a>(
+    alloc: Global,
+    compositions: &[&'a str],
+    bytes: &[u8],
+) -> Result<Option<&'a str>, OutOfMemory>
+    ensures { IfOk result (λ found. IfSome found (λ name. Contains (texts compositions.now) name.now)) }
+{
+    for composition in compositions {
+        if is_at_fault(alloc, composition, bytes)? {
+            return Ok(Some(*composition));
+        }
+    }
+    Ok(None)
+}
+
+/// Whether a composition is refused, or does something unseen.
+fn is_at_fault(alloc: Global, composition: &str, bytes: &[u8]) -> Result<bool, OutOfMemory> {
+    match program_in(alloc, bytes, Some(composition))? {
+        Some(program) => Ok(unseen_in(&program).is_some()),
+        None => Ok(true),
+    }
+}
+
 /// Puts that there is no such composition, and which there are.
 pub fn put_missing<F: Store>(
     alloc: Global,
@@ -299,8 +361,9 @@ fn source_words(
 {
     match checked_in(alloc, source)? {
         Some(checked) => {
+            let composition = composition_at_fault(alloc, asked, source)?;
             let declarations = checked.declarations();
-            Ok(Some(missing_words(alloc, declarations, composition_of(asked))?))
+            Ok(Some(missing_words(alloc, declarations, composition)?))
         }
         None => Ok(None),
     }
@@ -363,7 +426,7 @@ fn hiding_of(
     asked: &Request<'_>,
     bytes: &[u8],
 ) -> Result<Option<Hiding>, OutOfMemory> {
-    let composition = composition_of(asked);
+    let composition = composition_at_fault(alloc, asked, bytes)?;
     let Some(program) = program_in(alloc, bytes, composition)? else {
         return Ok(None);
     };

@@ -145,6 +145,7 @@ fn put_served(
         Request::Chart { .. } => put_end_of_log(alloc, text, told),
         Request::ReplayInvariants { .. } => put_invariants(alloc, text, told),
         Request::Monitor { .. } => put_monitor(alloc, text, told),
+        Request::Watch { .. } => Ok(()),
         Request::Run(settings) => {
             put_end_of_run(alloc, text, status, told, settings.composition)
         }

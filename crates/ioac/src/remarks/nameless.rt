@@ -49,6 +49,7 @@ fn put_served(
 {
     match asked {
         Request::Monitor { .. } => put_monitor(alloc, text, object, name, input),
+        Request::Watch { .. } => Ok(()),
         Request::Replay { .. } => Ok(()),
         Request::ReplayStates { .. } => Ok(()),
         Request::Log { .. } => Ok(()),

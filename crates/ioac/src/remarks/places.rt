@@ -123,6 +123,11 @@ pub fn source_of<'a>(asked: &Request<'a>) -> Option<(&'a str, Option<&'a str>)>
         Request::ReplayInvariants { file, composition } => Some((*file, *composition)),
         Request::Log { file, composition } => Some((*file, *composition)),
         Request::Monitor { file, composition } => Some((*file, *composition)),
+        Request::Watch {
+            file,
+            compositions,
+            ..
+        } => Some((*file, compositions.first().copied())),
         Request::Chart { file, composition } => Some((*file, *composition)),
         Request::Graph { file, composition } => Some((*file, *composition)),
         Request::Compile {
@@ -175,6 +180,7 @@ fn settings_of<'b, 'a>(asked: &'b Request<'a>) -> Option<&'b Settings<'a>>
         Request::ReplayInvariants { .. } => None,
         Request::Log { .. } => None,
         Request::Monitor { .. } => None,
+        Request::Watch { .. } => None,
         Request::Chart { .. } => None,
         Request::Graph { .. } => None,
         Request::Check { .. } => None,
@@ -239,6 +245,7 @@ pub fn out_of<'a>(asked: &Request<'a>) -> Option<&'a str>
         Request::ReplayInvariants { .. } => None,
         Request::Log { .. } => None,
         Request::Monitor { .. } => None,
+        Request::Watch { .. } => None,
         Request::Chart { .. } => None,
         Request::Graph { .. } => None,
         Request::Check { .. } => None,
@@ -260,6 +267,7 @@ pub fn input_name(asked: &Request<'_>) -> &'static str
         Request::ReplayLogStates { .. } => "log",
         Request::ReplayInvariants { .. } => "log",
         Request::Monitor { .. } => "log",
+        Request::Watch { .. } => "stream",
         Request::Chart { .. } => "log",
         Request::Graph { .. } => "log",
         Request::Run(_) => "log",

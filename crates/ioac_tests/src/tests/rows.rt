@@ -3,7 +3,7 @@
 use crate::tests::shelf::{COUNTER, First, expect_rows};
 use crate::tests::{
     bounds, changes, choices, commands, composed, constants, crashes, declared, invariants, lines,
-    list_logs, lists, logs, loops, objects, pictures, proposals, requests, states, turns,
+    list_logs, lists, logs, loops, objects, pictures, proposals, requests, states, turns, watches,
 };
 use std::alloc::Global;
 use std::process::Abort;
@@ -17,7 +17,7 @@ const LONG: [(&str, First<'static>); 2] = [
     (lines::ROWS, First::Check),
 ];
 
-const SHORT: [(&str, First<'static>); 34] = [
+const SHORT: [(&str, First<'static>); 35] = [
     (lists::ROWS, First::List(COUNTER)),
     (lists::ROWS, First::Object(COUNTER)),
     (proposals::REPLAYS, First::Object(proposals::GAME)),
@@ -51,6 +51,7 @@ const SHORT: [(&str, First<'static>); 34] = [
     (requests::ROWS, First::Request),
     (states::ROWS, First::All),
     (turns::ROWS, First::All),
+    (watches::ROWS, First::Words(watches::ONCE)),
     (commands::ROWS, First::Words(commands::TWO)),
 ];
 

@@ -55,7 +55,7 @@ const DUMP: &str =
     "composition X\ncomponent 0 A\n  output go\n    constant 0: Bool (true)\n    precondition\n      0 Const 0: Bool (true)\n    proposals\n    effect\n";
 
 /// The words, a file, and what stands on standard input, which is read where there is something; what is printed, and the exit status.
-const GIVEN: [(&str, &str, &str, &str, Status); 19] = [
+const GIVEN: [(&str, &str, &str, &str, Status); 20] = [
     (REPLAY, COUNTER, LIST, PRINTED, Status::Done),
     ("replay f --states", COUNTER, LIST, REACHED, Status::Done),
     (
@@ -82,6 +82,13 @@ const GIVEN: [(&str, &str, &str, &str, Status); 19] = [
     ),
     ("log f", COUNTER, LIST, LOG, Status::Done),
     ("monitor f", COUNTER, LOG, "monitor: ok\n", Status::Done),
+    (
+        "watch f --comp One",
+        COUNTER,
+        LOG,
+        "One: ok\n",
+        Status::Done,
+    ),
     ("chart f", COUNTER, LOG, CHART, Status::Done),
     ("graph f", COUNTER, "", GRAPH, Status::Done),
     ("dump f", OBJECT, "", DUMP, Status::Done),

@@ -43,6 +43,16 @@ returns-in-monitor-clause-none c =
     read_none c.args.matches.now c.in_ok-name.found.now c.in_ok-name.name.now (codes "monitor") c.read_monitor.result c.in_ok-name.ensures.name c.in_ok-name.ensures.rows c.in-monitor.is
     c.read_monitor.ensures.none
 
+pub returns-in-watch-clause-some : goal.returns-in-watch-clause-some
+returns-in-watch-clause-some c =
+    read_some c.args.matches.now c.in_ok-name.found.now c.in_ok-name.name.now (codes "watch") c.read_watch.result c.in_ok-name.ensures.name c.in_ok-name.ensures.rows c.in-watch.is
+    c.read_watch.ensures.some
+
+pub returns-in-watch-clause-none : goal.returns-in-watch-clause-none
+returns-in-watch-clause-none c =
+    read_none c.args.matches.now c.in_ok-name.found.now c.in_ok-name.name.now (codes "watch") c.read_watch.result c.in_ok-name.ensures.name c.in_ok-name.ensures.rows c.in-watch.is
+    c.read_watch.ensures.none
+
 pub returns-in-chart-clause-some : goal.returns-in-chart-clause-some
 returns-in-chart-clause-some c =
     read_some c.args.matches.now c.in_ok-name.found.now c.in_ok-name.name.now (codes "chart") c.read_chart.result c.in_ok-name.ensures.name c.in_ok-name.ensures.rows c.in-chart.is

@@ -3,7 +3,7 @@ use Rattle.std.proofs.lemmas.Result.{IfOk-weaker}
 use Rattle.clap.specs.Words.{App, app_of, new_app, shape_of, with_subcommand}
 use Rattle.clap.specs.Simple.{Shape, app_of_fields, on_top}
 use Rattle.clap.specs.declared.builder.command.Command.{Command}
-use Rattle.ioa_request.specs.CommandLine.{IsLocal, bare_app, chart_app, check_app, compile_app, dump_app, explain_app, graph_app, library_app, log_app, monitor_app, replay_app, run_app}
+use Rattle.ioa_request.specs.CommandLine.{IsLocal, bare_app, chart_app, check_app, compile_app, dump_app, explain_app, graph_app, library_app, log_app, monitor_app, replay_app, run_app, watch_app}
 use Rattle.ioa_request.proofs.request.program.Goals as goal
 
 -- what `with` gives, of a subcommand that is known
@@ -31,7 +31,8 @@ returns c =
     let five = joined c.log_command.result log_app c.in_ok-command-5.ensures c.log_command.ensures.local c.log_command.ensures.app four in
     let six = joined c.run_command.result run_app c.in_ok-command-6.ensures c.run_command.ensures.local c.run_command.ensures.app five in
     let seven = joined c.monitor_command.result monitor_app c.in_ok-command-7.ensures c.monitor_command.ensures.local c.monitor_command.ensures.app six in
-    let eight = joined c.chart_command.result chart_app c.in_ok-command-8.ensures c.chart_command.ensures.local c.chart_command.ensures.app seven in
-    let nine = joined c.graph_command.result graph_app c.in_ok-command-9.ensures c.graph_command.ensures.local c.graph_command.ensures.app eight in
-    let ten = joined c.explain_command.result explain_app c.in_ok-command-10.ensures c.explain_command.ensures.local c.explain_command.ensures.app nine in
-    IfOk-weaker c.with-11.result _ _ (λ command h. joined c.library_command.result library_app h c.library_command.ensures.local c.library_command.ensures.app ten) c.with-11.ensures
+    let eight = joined c.watch_command.result watch_app c.in_ok-command-8.ensures c.watch_command.ensures.local c.watch_command.ensures.app seven in
+    let nine = joined c.chart_command.result chart_app c.in_ok-command-9.ensures c.chart_command.ensures.local c.chart_command.ensures.app eight in
+    let ten = joined c.graph_command.result graph_app c.in_ok-command-10.ensures c.graph_command.ensures.local c.graph_command.ensures.app nine in
+    let eleven = joined c.explain_command.result explain_app c.in_ok-command-11.ensures c.explain_command.ensures.local c.explain_command.ensures.app ten in
+    IfOk-weaker c.with-12.result _ _ (λ command h. joined c.library_command.result library_app h c.library_command.ensures.local c.library_command.ensures.app eleven) c.with-12.ensures

@@ -23,8 +23,8 @@ returns-then-failures-clause-answers g c =
       omega arith,
       tells.0,
       tells.1,
-      followed c.serve_and_tell-served.result.0 _ _ _ _ (λ done. ends (served done)) (λ e. ends (unserved e)) (rw (sym c.keep.ensures.inner) tells.2)
-          (rw (sym c.keep.ensures.inner) tells.3) (any_ok (λ (s : Served). ends (served s.status)) _ (λ s. inr (silent, refl, refl)))
+      followed c.serve_and_tell-served.result.0 _ _ _ _ (λ done. ends (served done)) (λ e. ends (unserved e)) (rw (sym c.keep_heard.ensures) tells.2)
+          (rw (sym c.keep_heard.ensures) tells.3) (any_ok (λ (s : Served). ends (served s.status)) _ (λ s. inr (silent, refl, refl)))
           (any_err (λ (e : Failure). ends (unserved e)) _ (λ e. inr (silent, refl, refl))),
     )
 
@@ -46,8 +46,8 @@ returns-clause-answers g c =
       c.put.ensures.counts,
       tells.0,
       tells.1,
-      followed c.serve_and_tell-served.result.0 _ _ _ _ (λ done. goes_on (served done)) (λ e. goes_on (unserved e)) (rw (sym c.keep.ensures.inner) tells.2)
-          (rw (sym c.keep.ensures.inner) tells.3)
+      followed c.serve_and_tell-served.result.0 _ _ _ _ (λ done. goes_on (served done)) (λ e. goes_on (unserved e)) (rw (sym c.keep_heard.ensures) tells.2)
+          (rw (sym c.keep_heard.ensures) tells.3)
           (if_ok (λ (s : Served). served s.status text) (λ (s : Served). goes_on (served s.status)) _ (λ s says. inl (passed, (text, says, puts))) c.remarks_or_none-text.ensures.served)
           (if_err (λ (e : Failure). unserved e text) (λ (e : Failure). goes_on (unserved e)) _ (λ e says. inl (passed, (text, says, puts))) c.remarks_or_none-text.ensures.unserved),
     )
@@ -56,7 +56,7 @@ pub returns-clause-passed : goal.returns-clause-passed
 returns-clause-passed g c = λ whole.
     let more = change g.E.Write.contents g.E.Device.failure_count c.serve_and_tell-served.new.errors c.put.new.errors in
     let so = c.serve_and_tell-served.ensures.passed (told_through _ _ more _ c.put.ensures.puts whole) in
-    (so.0 ∙ ap g.R.Device.failure_count c.keep.ensures.inner, so.1, c.put.ensures.passed whole ∙ so.2)
+    (so.0 ∙ ap g.R.Device.failure_count c.keep_heard.ensures, so.1, c.put.ensures.passed whole ∙ so.2)
 
 pub returns-clause-unread : goal.returns-clause-unread
-returns-clause-unread g c = λ none. ap (λ h. h.inner) (c.serve_and_tell-served.ensures.unread none) ∙ c.keep.ensures.inner
+returns-clause-unread g c = λ none. ap (λ h. h.inner) (c.serve_and_tell-served.ensures.unread none) ∙ c.keep_heard.ensures

@@ -1,13 +1,14 @@
-use Rattle.std.proofs.Common.{map, inl}
-use Rattle.clap.specs.Words.{subcommand_rows_of}
-use Rattle.ioa_serving.specs.Devices.{change}
-use Rattle.ioac.proofs.Unasked.{is_unasked}
-use Rattle.ioa_serving.proofs.Kept.{keeps_same}
+use Rattle.std.proofs.Common.{subst}
+use Rattle.ioa_request.specs.CommandLine.{IsAskedBy}
 use Rattle.ioac.proofs.command.perform.Goals as goal
 
 pub returns-in-Ok-clause-performs : goal.returns-in-Ok-clause-performs
-returns-in-Ok-clause-performs g c =
-    inl (is_unasked (map g.S.AsStr.text c.args.words.now) (subcommand_rows_of c.in-Ok.matches)
-    (change g.W.Write.contents g.W.Device.failure_count c.args.output.now c.args.output.now)
-    (change g.E.Write.contents g.E.Device.failure_count c.args.errors.now c.told_unasked.new.errors) c.told_unasked.result
-    c.in-Ok.ensures.found c.in-Ok.ensures.faults c.in-None.ensures.none (keeps_same (g.W.Write.contents c.args.output.now)) c.told_unasked.ensures.tells)
+returns-in-Ok-clause-performs g c = c.perform_read.ensures.performs _ c.in-Ok.ensures.found c.in-Ok.ensures.faults
+
+pub returns-in-Ok-clause-kept : goal.returns-in-Ok-clause-kept
+returns-in-Ok-clause-kept g c = λ none.
+    c.perform_read.ensures.kept (λ request asks. none request (c.in-Ok.ensures.faults, subst (λ o. IsAskedBy o request) c.in-Ok.ensures.found asks))
+
+pub returns-in-Ok-clause-unread : goal.returns-in-Ok-clause-unread
+returns-in-Ok-clause-unread g c = λ none.
+    c.perform_read.ensures.unread (λ request asks. none request (c.in-Ok.ensures.faults, subst (λ o. IsAskedBy o request) c.in-Ok.ensures.found asks))

@@ -3,6 +3,12 @@ use Rattle.ioac.proofs.requests.serve.Goals as goal
 pub returns-in-Monitor-clause-refused : goal.returns-in-Monitor-clause-refused
 returns-in-Monitor-clause-refused g c = rw c.in-Monitor.is c.monitor.ensures.refused
 
+pub returns-in-Watch-clause-served : goal.returns-in-Watch-clause-served
+returns-in-Watch-clause-served g c = rw c.in-Watch.is c.watch.ensures.served
+
+pub returns-in-Watch-clause-refused : goal.returns-in-Watch-clause-refused
+returns-in-Watch-clause-refused g c = rw c.in-Watch.is c.watch.ensures.refused
+
 pub returns-in-Compile-clause-served : goal.returns-in-Compile-clause-served
 returns-in-Compile-clause-served g c = rw c.in-Compile.is c.compile.ensures.served
 

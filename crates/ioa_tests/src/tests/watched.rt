@@ -1,0 +1,181 @@
+//! Streams that are watched.
+
+ghost use Rattle.std.specs.Prelude.{◌≡◌, All, false, true};
+ghost use Rattle.ioa_log.specs.Monitoring.{hides};
+
+use crate::tests::made::{action, program};
+use ioa_compile::Program;
+use ioa_log::{Counted, LogErr, hides_actions};
+use ioa_rows::COUNTER;
+use ioa_system::End;
+use ioa_value::{Action, OutOfMemory};
+use ioa_watch::{Watcher, watch};
+use std::alloc::Global;
+use std::process::Abort;
+
+/// A counter that begins elsewhere.
+const ANOTHER: &str = "automaton Counter(start: Int) signature output tick(k: Int); input reset \
+    states c: Int := start transitions output tick pre k = c propose k := c eff c := c + 1 \
+    input reset eff c := start composition Two components A: Counter(6)";
+
+/// What a counter that begins at 5 hears, and tells of it.
+const HEARD: [(&str, Option<End>); 6] = [
+    ("tick(5)", None),
+    ("other(1)", None),
+    ("reset", None),
+    ("tick(6)", Some(End::NotEnabled(3))),
+    ("tick", None),
+    ("reset", None),
+];
+
+/// What is told of one action more, of few.
+fn heard(
+    rt: &impl Abort,
+    watcher: &mut Watcher<'_>,
+    action: &Action,
+) -> Result<Option<End>, OutOfMemory> {
+    assert!(rt; watcher.heard() < 9);
+    watcher.hear(action)
+}
+
+#[test]
+fn hears_and_counts(rt: HostRuntime) {
+    let program = program(&rt, rt.alloc(), COUNTER, None);
+    let mut watcher = Watcher::start(rt.alloc(), &program).expect(&rt, "memory");
+    for (text, told) in HEARD {
+        let action = action(&rt, rt.alloc(), program.types(), text);
+        assert!(rt; heard(&rt, &mut watcher, &action) == Ok(told), "{text}");
+    }
+    assert!(rt; watcher.names() == ["tick", "reset"].as_slice());
+    assert!(rt; watcher.counts() == [1, 1].as_slice());
+    assert!(rt; watcher.others() == 1);
+    assert!(rt; watcher.heard() == 3);
+    assert!(rt; watcher.refusal() == Some(End::NotEnabled(3)));
+    assert!(rt; watcher.program().name() == "One");
+}
+
+/// Streams that a counter from 5 and one from 6 hear, whether the first refusal is enough, and what is told.
+const STREAMS: [(&str, bool, &str); 7] = [
+    ("", false, "One: ok\nTwo: ok\n"),
+    (
+        "{\"act\":\"login(\\\"ann\\\")\",\"at\":1}\n{\"end\":\"done after 1\"}\n",
+        false,
+        "One: ok\nTwo: ok\n",
+    ),
+    (
+        "{\"at\":1,\"act\":\"tick(5)\"}\n{\"act\":\"reset\"}",
+        false,
+        "Two: not enabled at 0\nOne: ok\n",
+    ),
+    (
+        "{\"act\":\"tick(5)\"}\n{\"act\":\"tick(7)\"}\nx\n",
+        true,
+        "Two: not enabled at 0\n",
+    ),
+    (
+        "{\"act\":\"other\"}\n{\"end\":\"done\"}\n{\"act\":\"tick(6)\"}\n{\"act\":\"tick\"}\nx\n",
+        false,
+        "One: not enabled at 1\nTwo: not an action at 2\n",
+    ),
+    (
+        "{\"act\":\"reset(true)\"}\nx\n",
+        false,
+        "One: not an action at 0\nTwo: not an action at 0\n",
+    ),
+    (
+        "{\"act\":\"tick(5)\"}\n{\"act\":\"tick(5)\"}\nx",
+        false,
+        "Two: not enabled at 0\nOne: not enabled at 1\n",
+    ),
+];
+
+/// Streams with a line that is none, why, and what is told before it.
+const WRONG: [(&str, LogErr, &str); 6] = [
+    ("\n", LogErr::NotJson(1), ""),
+    (
+        "{\"act\":\"reset\"}\n{\"act\":\"reset\"",
+        LogErr::NotJson(2),
+        "",
+    ),
+    (
+        "{\"act\":\"reset\"}\n{\"act\":5}\n",
+        LogErr::BadEntry(2),
+        "",
+    ),
+    ("{\"act\":\"tick(5\"}\n", LogErr::BadEntry(1), ""),
+    ("{\"end\":\"\"}\n[\"act\"]\n", LogErr::BadEntry(2), ""),
+    (
+        "{\"act\":\"tick(5)\"}\n{}",
+        LogErr::BadEntry(2),
+        "Two: not enabled at 0\n",
+    ),
+];
+
+/// Programs of both counters.
+fn counters(rt: &impl Abort, alloc: Global) -> Vec<Program> {
+    let mut programs = Vec::new(alloc);
+    for source in [COUNTER, ANOTHER] {
+        programs
+            .push(program(rt, alloc, source, None))
+            .expect(rt, "memory");
+    }
+    programs
+}
+
+/// Whether all that they do is seen.
+fn are_open(programs: &[Program]) -> bool
+    ensures { result ≡ true → All (λ p. hides p ≡ false) programs.now }
+{
+    for program in programs {
+        if hides_actions(program) {
+            return false;
+        }
+    }
+    true
+}
+
+/// What comes of a stream, and what is told of it.
+fn watched(
+    rt: &impl Abort,
+    alloc: Global,
+    text: &str,
+    first: bool,
+) -> (Result<(), LogErr>, Vec<u8>) {
+    let programs = counters(rt, alloc);
+    let mut input = Counted::new(text.as_bytes());
+    let mut output = Counted::new(Vec::new(alloc));
+    let mut answer = Err(LogErr::NoEnd);
+    if are_open(&programs) {
+        let ended = watch(
+            alloc,
+            programs[0].types(),
+            &programs,
+            first,
+            &mut input,
+            &mut output,
+        );
+        answer = match ended {
+            Ok(_) => Ok(()),
+            Err(error) => Err(error),
+        };
+    }
+    (answer, output.into_inner())
+}
+
+#[test]
+fn tells_refusals_at_once(rt: HostRuntime) {
+    for (text, first, told) in STREAMS {
+        let (answer, written) = watched(&rt, rt.alloc(), text, first);
+        assert!(rt; answer == Ok(()), "{text}");
+        assert!(rt; written.as_slice() == told.as_bytes(), "{text}");
+    }
+}
+
+#[test]
+fn refuses_lines(rt: HostRuntime) {
+    for (text, error, told) in WRONG {
+        let (answer, written) = watched(&rt, rt.alloc(), text, false);
+        assert!(rt; answer == Err(error), "{text}");
+        assert!(rt; written.as_slice() == told.as_bytes(), "{text}");
+    }
+}

@@ -1,0 +1,30 @@
+use Rattle.std.proofs.Common.{ap, inl, inr, subst, ◌∙◌}
+use Rattle.clap.specs.Words.{subcommand_rows_of}
+use Rattle.ioa_request.specs.declared.request.Request.{Request}
+use Rattle.ioa_request.specs.CommandLine.{IsAskedBy, is_explained}
+use Rattle.ioa_serving.specs.Devices.{change, files, world}
+use Rattle.ioa_serving.proofs.Kept.{keeps_same}
+use Rattle.ioac.specs.Commands.{IsAnsweredAs}
+use Rattle.ioac.proofs.Unasked.{is_unasked}
+use Rattle.ioac.proofs.command.perform_read.Goals as goal
+
+pub returns-in-Some-clause-performs : goal.returns-in-Some-clause-performs
+returns-in-Some-clause-performs g c = λ words found faults.
+    (let asked : Request = c.in-Some.asked in
+    let w =
+    world (files g.F.Store.holds g.F.Store.lacks g.F.Store.begins g.F.Store.bars g.F.Store.saves c.args.store.now c.answer_as.new.store)
+    (change g.R.Read.remaining g.R.Device.failure_count c.args.input.now.inner c.answer_as.new.input.inner)
+    (change g.W.Write.contents g.W.Device.failure_count c.args.output.now c.answer_as.new.output)
+    (change g.E.Write.contents g.E.Device.failure_count c.args.errors.now c.answer_as.new.errors) in
+    inr (
+      asked,
+      (faults, subst (λ o. IsAskedBy o asked) found c.in-Some.ensures.some),
+      subst (λ b. IsAnsweredAs b w asked c.answer_as.result) (c.is_explained-explains.ensures ∙ ap is_explained found) c.answer_as.ensures.answers,
+    ))
+
+pub returns-in-None-clause-performs : goal.returns-in-None-clause-performs
+returns-in-None-clause-performs g c = λ words found faults.
+    inl (is_unasked words (subcommand_rows_of c.args.matches.now)
+    (change g.W.Write.contents g.W.Device.failure_count c.args.output.now c.args.output.now)
+    (change g.E.Write.contents g.E.Device.failure_count c.args.errors.now c.told_unasked.new.errors) c.told_unasked.result
+    found faults c.in-None.ensures.none (keeps_same (g.W.Write.contents c.args.output.now)) c.told_unasked.ensures.tells)
