@@ -1,13 +1,15 @@
 -- What is warned of in some small automata and texts, computed from the definitions.
 use Rattle.std.proofs.Common.{◌≡◌, true, false, List, [], ◌∷◌, Some, None, codes, refl}
 use Rattle.ioa_value.specs.Actions.{Name}
-use Rattle.ioa_value.specs.declared.operator.Op.TheVariants.{Eq}
-use Rattle.ioa_tree.specs.declared.tree.Infix.TheVariants.{And, Operator}
+use Rattle.ioa_value.specs.declared.operator.Op.TheVariants.{Eq, Not}
+use Rattle.ioa_tree.specs.declared.tree.Infix.TheVariants.{And, Implies, Operator, Or}
 use Rattle.ioa_tree.specs.declared.tree.Kind.TheVariants.{Input, Output, Internal}
-use Rattle.ioa_tree.specs.Tree.{Expr, binary, make, named, number, select, truth, also, no_expr, any_below, exactly, PositionTree, only, positive, typed, EntryTree, TransitionTree, AutomatonTree, stop}
+use Rattle.ioa_tree.specs.Tree.{Expr, binary, make, named, number, parens, prefix, select, truth, also, no_expr, any_below, exactly, PositionTree, only, positive, typed, EntryTree, TransitionTree, AutomatonTree, stop}
 use Rattle.ioa_warnings.specs.Comments.{comments_in_statements}
+use Rattle.ioa_warnings.specs.Dead.{dead_in, gives_nothing}
 use Rattle.ioa_warnings.specs.Free.{free_of_automaton}
 use Rattle.ioa_warnings.specs.Mentions.{mentions}
+use Rattle.ioa_warnings.specs.Never.{never}
 
 -- ---- names
 
@@ -119,9 +121,12 @@ proposed_alone : free_of_automaton (clock (sets ∷ ticks_fast ∷ resets_to_thr
     ≡ record { parameter = codes "k"; action = codes "reset"; line = 6 } ∷ []
 proposed_alone = refl
 
-never_enabled : free_of_automaton (clock (sets ∷ ticks_fast ∷ resets_never ∷ [])) ((4, sets) ∷ (5, ticks_fast) ∷ (6, resets_never) ∷ [])
-    ≡ record { parameter = codes "k"; action = codes "reset"; line = 6 } ∷ []
+-- what is enabled with no value is told as a transition that is never performed, and not as one with a free parameter
+never_enabled : free_of_automaton (clock (sets ∷ ticks_fast ∷ resets_never ∷ [])) ((4, sets) ∷ (5, ticks_fast) ∷ (6, resets_never) ∷ []) ≡ []
 never_enabled = refl
+
+never_performed : dead_in (6, resets_never) ≡ record { action = codes "reset"; line = 6; parameter = None } ∷ []
+never_performed = refl
 
 -- ---- comments
 
@@ -154,3 +159,35 @@ in_a_comment = refl
 
 on_two_lines : comments_in_statements (codes "eff x := y % 2;\n  y := x mod 2;\n\n  x := 3 % k") ≡ 1 ∷ 4 ∷ []
 on_two_lines = refl
+
+-- ---- transitions that are never performed
+
+shows_false : never true (truth false) ≡ true
+shows_false = refl
+
+-- ~(true \/ x)
+shows_a_denied_choice : never true (prefix Not (parens (binary (truth true) Or (named (codes "x"))))) ≡ true
+shows_a_denied_choice = refl
+
+-- x /\ false
+shows_a_second_operand : never true (binary (named (codes "x")) And (truth false)) ≡ true
+shows_a_second_operand = refl
+
+-- x \/ false may be true
+asks_what_x_is : never true (binary (named (codes "x")) Or (truth false)) ≡ false
+asks_what_x_is = refl
+
+-- true => false
+shows_what_follows : never true (binary (truth true) Implies (truth false)) ≡ true
+shows_what_follows = refl
+
+-- any(0), and any(1), which gives 0
+gives_no_number : gives_nothing (any_below (number 0)) ≡ true
+gives_no_number = refl
+
+gives_one_number : gives_nothing (any_below (number 1)) ≡ false
+gives_one_number = refl
+
+-- .. and 0 itself is given where it is proposed
+gives_zero : gives_nothing (exactly (number 0)) ≡ false
+gives_zero = refl

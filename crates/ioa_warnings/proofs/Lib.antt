@@ -2,3 +2,4 @@ pub mod CutLines
 pub mod Unmentioned
 pub mod BrokenOff
 pub mod Examples
+pub mod Disabled

@@ -50,7 +50,7 @@ module _ (types : Table) (x : Name) (m n : Env) (same : (y : Name) → bytes_eq 
   enabling_same None h = refl
   enabling_same (Some e) h = ap truth_of (val_same e (not_true (mentions x e) h))
 
-guard_at : (i : Instance) (e : EntryTree) (t : TransitionTree) (a : Act) (s : Env) → entry_for i a ≡ Some e → transition_for i.automaton e ≡ Some t
+pub guard_at : (i : Instance) (e : EntryTree) (t : TransitionTree) (a : Act) (s : Env) → entry_for i a ≡ Some e → transition_for i.automaton e ≡ Some t
     → guard_in i a s ≡ enabling i.types t.pre (environment i e a.vals s)
 guard_at i e t a s entry transition = rw (entry, transition) refl
 

@@ -1,5 +1,5 @@
 -- Parameters of which no precondition says anything: their action is enabled with any value of them. They are warned of where the source does not say so.
-use Rattle.std.specs.Prelude.{ℕ, Bool, true, false, not, ◌&&◌, ◌||◌, if◌then◌else◌, List, [], ◌∷◌, map, Option, Some, None}
+use Rattle.std.specs.Prelude.{ℕ, Bool, true, false, not, ◌&&◌, ◌||◌, if◌then◌else◌, List, [], ◌∷◌, map, Option}
 use Rattle.std.specs.List.{flat_map, list_any}
 use Rattle.std.specs.Option.{option_map_or}
 use Rattle.std.specs.Str.{bytes_eq}
@@ -11,6 +11,7 @@ use Rattle.ioa_tree.specs.Tree.{Expr, number, truth, named, parens, prefix, bina
 use Rattle.ioa_tree.specs.View.{automaton_of, transition_of}
 use Rattle.ioa_tree.specs.WellFormed.{is_input, matches}
 use Rattle.ioa_warnings.specs.Mentions.{mentions}
+use Rattle.ioa_warnings.specs.Never.{is_never_enabled}
 
 -- a free parameter: its name, its action's, and the line of the transition
 pub record Free : Type 0 where
@@ -53,9 +54,13 @@ Lined = ℕ × TransitionTree
 abbrev pub lined : Transition → Lined
 lined t = (t.name.line, transition_of t)
 
--- the parameter of a position, where it is free and is not said to be; a constant is no parameter
+-- a parameter is warned of where its action can be enabled, with any value of it, and the source does not say so
+abbrev pub is_warned_of : TransitionTree → Name → Bool
+is_warned_of t x = is_free t.pre x && not (is_meant t x || is_never_enabled t.pre)
+
+-- the parameter of a position, where it is so; a constant is no parameter
 abbrev pub free_at : Lined → PositionTree → List Free
-free_at t (typed f) = if is_free t.1.pre f.name && not (is_meant t.1 f.name) then record { parameter = f.name; action = t.1.name; line = t.0 } ∷ [] else []
+free_at t (typed f) = if is_warned_of t.1 f.name then record { parameter = f.name; action = t.1.name; line = t.0 } ∷ [] else []
 free_at t (only c) = []
 
 -- those of an entry in a transition, where it is one of the entry

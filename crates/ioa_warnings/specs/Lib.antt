@@ -4,3 +4,6 @@ pub mod Shown
 pub mod Enabled
 pub mod Comments
 pub mod Statements
+pub mod Never
+pub mod Dead
+pub mod Performed

@@ -11,6 +11,7 @@ ghost use Rattle.ioa_warnings.specs.Free as spec;
 ghost use Rattle.ioa_warnings.specs.Free.{lined};
 ghost use Rattle.ioa_warnings.specs.Shown.{free_of};
 
+use crate::conditions::is_never_enabled;
 use crate::names::mentions;
 use ioa_tree::{
     Automaton, Choice, Declaration, Entry, Expression, Field, Kind, Name, Position, Proposal,
@@ -28,8 +29,8 @@ pub struct FreeParameter<'a> {
     pub line: u32,
 }
 
-/// The free parameters of a source's outputs and internal actions, in its order, but for those of which the source says that any value of them will do: by
-/// `pre true`, or by a proposal that leaves them to chance.
+/// The free parameters of a source's outputs and internal actions, in its order, but for those of which the source says that any value of them will do, by
+/// `pre true`, or by a proposal that leaves them to chance, and those whose precondition is true in no state.
 ///
 /// # Errors
 /// `OutOfMemory`.
@@ -120,7 +121,7 @@ fn add_at<'a>(
     }
 }
 
-/// Adds a parameter, if it is free and is not said to be.
+/// Adds a parameter, if it is to be warned of.
 fn add_parameter<'a>(
     found: &mut Vec<FreeParameter<'a>>,
     transition: &'a Transition,
@@ -128,7 +129,7 @@ fn add_parameter<'a>(
 ) -> Result<(), OutOfMemory>
     ensures { OnOk result (map free_of found.new.items ≡ map free_of found.old.items ++ spec.free_at (lined transition.now) (typed (field_of field.now))) }
 {
-    if !is_free(&transition.pre, &field.name) || is_meant(transition, &field.name) {
+    if !is_warned_of(transition, &field.name) {
         return Ok(());
     }
     found.push(FreeParameter {
@@ -137,6 +138,14 @@ fn add_parameter<'a>(
         line: transition.name.line,
     })?;
     Ok(())
+}
+
+/// Whether a parameter is free, its action can be enabled, and the source does not say that any value of it will do.
+fn is_warned_of(transition: &Transition, name: &Name) -> bool
+    ensures { result ≡ spec.is_warned_of (transition_of transition.now) (name_of name.now) }
+{
+    is_free(&transition.pre, name)
+        && !(is_meant(transition, name) || is_never_enabled(&transition.pre))
 }
 
 /// Whether a precondition says nothing of this name. An omitted one says nothing.

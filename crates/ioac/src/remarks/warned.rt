@@ -9,7 +9,9 @@ use ioa_serving::{Store, StoreErr, is_object};
 use ioa_syntax::{Refusal, parse};
 use ioa_tree::Declaration;
 use ioa_value::OutOfMemory;
-use ioa_warnings::{FreeParameter, comments_in_statements, free_parameters};
+use ioa_warnings::{
+    DeadTransition, FreeParameter, comments_in_statements, dead_transitions, free_parameters,
+};
 use std::alloc::Global;
 use std::fmt::Write;
 
@@ -66,7 +68,7 @@ fn put_of_source(
     }
 }
 
-/// Puts that nothing is declared, or the parameters that are free.
+/// Puts that nothing is declared, or the parameters that are free, and the transitions that are never performed.
 fn put_of_declarations(
     alloc: Global,
     text: &mut String,
@@ -76,8 +78,10 @@ fn put_of_declarations(
     if declarations.is_empty() {
         writeln!(text, "warning: {file}: nothing is declared")?;
     }
-    let found = free_parameters(alloc, declarations)?;
-    put_free(text, file, &found)
+    let free = free_parameters(alloc, declarations)?;
+    put_free(text, file, &free)?;
+    let dead = dead_transitions(alloc, declarations)?;
+    put_dead(text, file, &dead)
 }
 
 fn put_comments(
@@ -107,6 +111,31 @@ fn put_free(text: &mut String, file: &str, found: &[FreeParameter<'_>]) -> Resul
             text,
             "warning: {file}, line {line}: no precondition names {parameter}, so {action} is enabled with any value of it"
         )?;
+    }
+    Ok(())
+}
+
+fn put_dead(
+    text: &mut String,
+    file: &str,
+    found: &[DeadTransition<'_>],
+) -> Result<(), OutOfMemory> {
+    for dead in found {
+        let DeadTransition {
+            action,
+            line,
+            parameter,
+        } = dead;
+        match parameter {
+            Some(parameter) => writeln!(
+                text,
+                "warning: {file}, line {line}: `any` has no number to give to {parameter}, so {action} is never proposed"
+            )?,
+            None => writeln!(
+                text,
+                "warning: {file}, line {line}: the precondition of {action} is true in no state, so it is never performed"
+            )?,
+        }
     }
     Ok(())
 }

@@ -193,6 +193,7 @@ replay f --log --invariants | type Q = seq 2 of Int^automaton A^signature intern
 check f |  |  | warning: f: nothing is declared^
 check f --compositions | % only this |  | warning: f: nothing is declared^
 check f | automaton C^signature output tick(k: Int)^states c: Int^transitions^  output tick^  pre c < 9^  propose k := c^  eff c := c + 1 |  | warning: f, line 5: no precondition names k, so tick is enabled with any value of it^
+check f | automaton C^signature output tick(k: Int); internal a^states c: Int^transitions^  output tick^  pre ~(true \/ c < 9)^  propose k := any(0)^  eff c := c + 1^  internal a^  pre c < 9 |  | warning: f, line 5: the precondition of tick is true in no state, so it is never performed^warning: f, line 5: `any` has no number to give to k, so tick is never proposed^
 check f | automaton C^signature internal a^states c: Int^transitions internal a^  eff c := c % 2^ |  | warning: f, line 5: a comment begins within a statement; a remainder is written `mod`^
 check f | automaton C^signature internal a^states c: Int^transitions internal a^  eff c := c + 1   % count up^
 check f | automaton C^signature output tick(k: Int)^states c: Int^transitions^  output tick^  propose k := any(9)^  eff c := c + 1
