@@ -1,7 +1,8 @@
 -- What words that the program printed ask to be explained. The first word tells, or the first two; letters may be capitals or not.
-use Rattle.std.specs.Prelude.{◌≡◌, ◌⊎◌, ◌||◌, ◌++◌, Bool, true, List, [], ◌∷◌, Option, Some, None, codes, if◌then◌else◌, map}
+use Rattle.std.specs.Prelude.{◌≡◌, ◌⊎◌, ◌++◌, Bool, true, eqb, List, [], ◌∷◌, Option, Some, None, codes, if◌then◌else◌, map}
 use Rattle.std.specs.Borrow.{Bor}
 use Rattle.std.specs.Char.{to_ascii_lowercase}
+use Rattle.std.specs.List.{ends_with}
 use Rattle.std.specs.Option.{option_and_then, option_copied, option_map, option_to_list}
 use Rattle.std.specs.Str.{bytes_eq}
 use Rattle.clap.specs.Words.{Text}
@@ -33,9 +34,9 @@ next_word (w ∷ ws) = Some (first_field w, option_to_list (after_field w) ++ ws
 abbrev pub with_next : Text × List Text → Text × Option Text
 with_next p = (p.0, option_map (λ q. q.0) (next_word p.1))
 
--- what stands before an end, or before what a monitor answers
+-- what stands before an end, or before what a monitor or a specification answers, as `end:` or `Safety:`
 abbrev pub is_label : Text → Bool
-is_label word = reads word (codes "end:") || reads word (codes "monitor:")
+is_label word = ends_with eqb word (codes ":")
 
 -- what is left of words behind a label, if there is one
 abbrev pub unlabelled : Text × List Text → Option (Text × List Text)

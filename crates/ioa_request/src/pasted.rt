@@ -19,8 +19,8 @@ struct Left<'t> {
     rest: &'t [&'t str],
 }
 
-/// What is asked to be explained by words, as the program printed them. The first word tells, or the first two; `end:` or `monitor:` may stand
-/// before them, and more behind them. Whether letters are capitals does not matter, and a word with spaces stands for several.
+/// What is asked to be explained by words, as the program printed them. The first word tells, or the first two; a word with a colon, as `end:` or the
+/// name of a specification, may stand before them, and more behind them. Whether letters are capitals does not matter, and a word with spaces stands for several.
 pub fn pasted(words: &[&str]) -> Option<Topic>
     ensures some { IfSome result (λ topic. IsPasted (texts words.now) topic) }
     ensures none { IfNone result ((topic : Topic) → IsPasted (texts words.now) topic → ⊥) }
@@ -45,11 +45,11 @@ fn told<'t>(words: &'t [&'t str]) -> Option<(&'t [u8], Option<&'t [u8]>)>
     Some((first, second_word(left)))
 }
 
-/// Whether the word is what stands before an end, or before what a monitor answers.
+/// Whether the word is what stands before an end, or before what a monitor or a specification answers.
 fn is_label(word: &[u8]) -> bool
     ensures { result ≡ spec.is_label word.now }
 {
-    reads(word, b"end:") || reads(word, b"monitor:")
+    word.ends_with(b":")
 }
 
 /// The word that comes next, if there is one.

@@ -130,6 +130,7 @@ const PRINTED: [(&str, Topic); 15] = [
     ("explain End: Not an action at 2", Topic::NotAnAction),
     ("explain not enabled at 4", Topic::NotEnabled),
     ("explain monitor: not enabled at 11", Topic::NotEnabled),
+    ("explain Safety: not an action at 4", Topic::NotAnAction),
     (
         "explain invariant 0 of component 1 broken after 3",
         Topic::Broken,
