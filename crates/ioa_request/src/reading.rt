@@ -15,7 +15,7 @@ use clap::ArgMatches;
 
 /// The request of a command line without a fault. None where a word is missing, which a parse rules out, where there is nothing to explain,
 /// where the invariants of a list are asked for, or invariants and states, or where the settings of a run, or of runs by many seeds, are none.
-pub fn read_request<'a>(matches: &'a ArgMatches<'a>) -> Option<Request<'a>>
+pub fn read_request<'m>(matches: &'m ArgMatches<'_>) -> Option<Request<'m>>
     ensures some { IfSome result (λ asked. IsAskedBy (subcommand_rows_of matches.now) asked) }
     ensures none { IfNone result ((asked : Request) → IsAskedBy (subcommand_rows_of matches.now) asked → ⊥) }
 {
@@ -67,7 +67,7 @@ fn read_names<'a>(found: &ArgMatches<'a>) -> Option<(&'a str, Option<&'a str>)>
     Some((file, composition))
 }
 
-fn read_replay<'a>(found: &ArgMatches<'a>) -> Option<Request<'a>>
+fn read_replay<'m>(found: &'m ArgMatches<'_>) -> Option<Request<'m>>
     ensures some { IfSome result (λ asked. IsAskedBy (Some (codes "replay", rows_of (found_of found.now))) asked) }
     ensures none { IfNone result ((asked : Request) → IsAskedBy (Some (codes "replay", rows_of (found_of found.now))) asked → ⊥) }
 {
@@ -87,7 +87,7 @@ fn read_replay<'a>(found: &ArgMatches<'a>) -> Option<Request<'a>>
     }
 }
 
-fn read_log<'a>(found: &ArgMatches<'a>) -> Option<Request<'a>>
+fn read_log<'m>(found: &'m ArgMatches<'_>) -> Option<Request<'m>>
     ensures some { IfSome result (λ asked. IsAskedBy (Some (codes "log", rows_of (found_of found.now))) asked) }
     ensures none { IfNone result ((asked : Request) → IsAskedBy (Some (codes "log", rows_of (found_of found.now))) asked → ⊥) }
 {
@@ -95,7 +95,7 @@ fn read_log<'a>(found: &ArgMatches<'a>) -> Option<Request<'a>>
     Some(Request::Log { file, composition })
 }
 
-fn read_run<'a>(found: &ArgMatches<'a>) -> Option<Request<'a>>
+fn read_run<'m>(found: &'m ArgMatches<'_>) -> Option<Request<'m>>
     ensures some { IfSome result (λ asked. IsAskedBy (Some (codes "run", rows_of (found_of found.now))) asked) }
     ensures none { IfNone result ((asked : Request) → IsAskedBy (Some (codes "run", rows_of (found_of found.now))) asked → ⊥) }
 {
@@ -107,7 +107,7 @@ fn read_run<'a>(found: &ArgMatches<'a>) -> Option<Request<'a>>
     Some(Request::Run(settings))
 }
 
-fn read_monitor<'a>(found: &ArgMatches<'a>) -> Option<Request<'a>>
+fn read_monitor<'m>(found: &'m ArgMatches<'_>) -> Option<Request<'m>>
     ensures some { IfSome result (λ asked. IsAskedBy (Some (codes "monitor", rows_of (found_of found.now))) asked) }
     ensures none { IfNone result ((asked : Request) → IsAskedBy (Some (codes "monitor", rows_of (found_of found.now))) asked → ⊥) }
 {
@@ -115,7 +115,7 @@ fn read_monitor<'a>(found: &ArgMatches<'a>) -> Option<Request<'a>>
     Some(Request::Monitor { file, composition })
 }
 
-fn read_watch<'a>(found: &'a ArgMatches<'a>) -> Option<Request<'a>>
+fn read_watch<'m>(found: &'m ArgMatches<'_>) -> Option<Request<'m>>
     ensures some { IfSome result (λ asked. IsAskedBy (Some (codes "watch", rows_of (found_of found.now))) asked) }
     ensures none { IfNone result ((asked : Request) → IsAskedBy (Some (codes "watch", rows_of (found_of found.now))) asked → ⊥) }
 {
@@ -131,7 +131,7 @@ fn read_watch<'a>(found: &'a ArgMatches<'a>) -> Option<Request<'a>>
     })
 }
 
-fn read_chart<'a>(found: &ArgMatches<'a>) -> Option<Request<'a>>
+fn read_chart<'m>(found: &'m ArgMatches<'_>) -> Option<Request<'m>>
     ensures some { IfSome result (λ asked. IsAskedBy (Some (codes "chart", rows_of (found_of found.now))) asked) }
     ensures none { IfNone result ((asked : Request) → IsAskedBy (Some (codes "chart", rows_of (found_of found.now))) asked → ⊥) }
 {
@@ -139,7 +139,7 @@ fn read_chart<'a>(found: &ArgMatches<'a>) -> Option<Request<'a>>
     Some(Request::Chart { file, composition })
 }
 
-fn read_graph<'a>(found: &ArgMatches<'a>) -> Option<Request<'a>>
+fn read_graph<'m>(found: &'m ArgMatches<'_>) -> Option<Request<'m>>
     ensures some { IfSome result (λ asked. IsAskedBy (Some (codes "graph", rows_of (found_of found.now))) asked) }
     ensures none { IfNone result ((asked : Request) → IsAskedBy (Some (codes "graph", rows_of (found_of found.now))) asked → ⊥) }
 {
@@ -147,7 +147,7 @@ fn read_graph<'a>(found: &ArgMatches<'a>) -> Option<Request<'a>>
     Some(Request::Graph { file, composition })
 }
 
-fn read_check<'a>(found: &ArgMatches<'a>) -> Option<Request<'a>>
+fn read_check<'m>(found: &'m ArgMatches<'_>) -> Option<Request<'m>>
     ensures some { IfSome result (λ asked. IsAskedBy (Some (codes "check", rows_of (found_of found.now))) asked) }
     ensures none { IfNone result ((asked : Request) → IsAskedBy (Some (codes "check", rows_of (found_of found.now))) asked → ⊥) }
 {
@@ -156,7 +156,7 @@ fn read_check<'a>(found: &ArgMatches<'a>) -> Option<Request<'a>>
     Some(Request::Check { file, compositions })
 }
 
-fn read_compile<'a>(found: &ArgMatches<'a>) -> Option<Request<'a>>
+fn read_compile<'m>(found: &'m ArgMatches<'_>) -> Option<Request<'m>>
     ensures some { IfSome result (λ asked. IsAskedBy (Some (codes "compile", rows_of (found_of found.now))) asked) }
     ensures none { IfNone result ((asked : Request) → IsAskedBy (Some (codes "compile", rows_of (found_of found.now))) asked → ⊥) }
 {
@@ -169,7 +169,7 @@ fn read_compile<'a>(found: &ArgMatches<'a>) -> Option<Request<'a>>
     })
 }
 
-fn read_dump<'a>(found: &ArgMatches<'a>) -> Option<Request<'a>>
+fn read_dump<'m>(found: &'m ArgMatches<'_>) -> Option<Request<'m>>
     ensures some { IfSome result (λ asked. IsAskedBy (Some (codes "dump", rows_of (found_of found.now))) asked) }
     ensures none { IfNone result ((asked : Request) → IsAskedBy (Some (codes "dump", rows_of (found_of found.now))) asked → ⊥) }
 {
@@ -177,7 +177,7 @@ fn read_dump<'a>(found: &ArgMatches<'a>) -> Option<Request<'a>>
     Some(Request::Dump { file })
 }
 
-fn read_explain<'a>(found: &ArgMatches<'a>) -> Option<Request<'a>>
+fn read_explain<'m>(found: &'m ArgMatches<'_>) -> Option<Request<'m>>
     ensures some { IfSome result (λ asked. IsAskedBy (Some (codes "explain", rows_of (found_of found.now))) asked) }
     ensures none { IfNone result ((asked : Request) → IsAskedBy (Some (codes "explain", rows_of (found_of found.now))) asked → ⊥) }
 {

@@ -13,7 +13,7 @@ use Rattle.ioa_watch.specs.declared.watcher.Watcher.{Watcher}
 use Rattle.ioa_watch.specs.Names.{names_of, shown}
 use Rattle.ioa_watch.specs.Streaming.{HaveHeard}
 use Rattle.ioa_watch.specs.Watched.{Watching}
-use Rattle.ioa_watch.specs.Watchers.{HasHeard, heard_by, names_in, refused_by, watching_of}
+use Rattle.ioa_watch.specs.Watchers.{HasHeard, heard_by, names_in, watching_of}
 use Rattle.ioa_watch.proofs.Watchers.{refusal_is}
 use Rattle.ioa_serving.specs.Counting.{MayTell, counted_lines, counted_text, counts_line, full_line, is_full, taken_text}
 

@@ -6,8 +6,7 @@ use Rattle.ioa_value.specs.Actions.{Act}
 use Rattle.ioa_tree.specs.Compositions.{picked}
 use Rattle.ioa_tree.specs.Hosts.{HostState, Hosted, IsHosted, host_starts, hosts_of}
 use Rattle.ioa_tree.specs.Meaning.{Env}
-use Rattle.ioa_tree.specs.Tree.{SourceTree}
-use Rattle.ioa_links.specs.Delivery.{Begins, Delivers, delivered, performed, sent}
+use Rattle.ioa_links.specs.Delivery.{Begins, delivered, performed, sent}
 use Rattle.ioa_links.specs.Trees.{stenning_source}
 use Rattle.ioa_links.proofs.Stands.{stenning_delivers}
 use Rattle.ioa_run.specs.Boards.{IsSound, Standing}

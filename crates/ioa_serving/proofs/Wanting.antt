@@ -1,5 +1,5 @@
 -- The lines that tell of workers to which memory was refused.
-use Rattle.std.proofs.Common.{◌≡◌, ◌≢◌, ◌↔◌, ◌<◌, ◌+◌, ◌∙◌, codes, ℕ, zero, suc, All, List, Option, Result, Ok, Err, [], ◌∷◌, ◌++◌, append_assoc, append-nil, length, take, Some, slice_get, refl, sym, ap, subst, arith}
+use Rattle.std.proofs.Common.{◌≡◌, ◌≢◌, ◌+◌, ◌∙◌, codes, ℕ, zero, suc, All, List, Option, Result, Ok, Err, [], ◌∷◌, ◌++◌, append_assoc, append-nil, take, Some, slice_get, refl, sym, ap, subst, arith}
 use Rattle.std.proofs.lemmas.Option.{get_or_from_slice_get, slice_get_within}
 use Rattle.std.specs.Io.KnownBytes.{Appends}
 use Rattle.std.specs.Prelude.{OnErr}
@@ -9,8 +9,7 @@ use Rattle.ioa_value.proofs.ItemLemmas.{item_there}
 use Rattle.ioa_tree.specs.Runs.{Ending}
 use Rattle.ioa_run.specs.declared.report.Report.{Report}
 use Rattle.ioa_run.specs.declared.report.Why.{Why}
-use Rattle.ioa_run.specs.Alone.{NoMemory}
-use Rattle.ioa_run.specs.Outcomes.{HaveEnded, IsFault, IsReason}
+use Rattle.ioa_run.specs.Outcomes.{IsFault, IsReason}
 use Rattle.ioa_run.specs.Reports.{counted}
 use Rattle.ioa_serving.proofs.Pieces.{begun_first, begun_last, begun_next}
 use Rattle.ioa_serving.specs.RunReports.{SilenceMeans, name_at, want_line, wants_text}

@@ -1,5 +1,5 @@
 -- What a watch of a stream answers, told of the bytes of a source.
-use Rattle.std.proofs.Common.{◌≡◌, ◌∙◌, ◌⊎◌, ℕ, Bool, inr, List, Option, IfSome, refl, sym, subst}
+use Rattle.std.proofs.Common.{◌≡◌, ◌⊎◌, ℕ, Bool, inr, List, Option, IfSome, refl, sym, subst}
 use Rattle.std.specs.Io.KnownBytes.{Appends}
 use Rattle.std.specs.List.{list_any}
 use Rattle.ioa_value.specs.Actions.{Act, Name}

@@ -1,5 +1,5 @@
 -- Stenning's protocol, compiled: in every history of its workers, whatever their schedule, the delivered messages are a beginning of the sent ones.
-use Rattle.std.specs.Prelude.{◌≡◌, ◌<◌, ◌^◌, ℕ, List, Option, Some, codes}
+use Rattle.std.specs.Prelude.{◌<◌, ◌^◌, ℕ, List, Option, Some, codes}
 use Rattle.ioa_value.specs.Actions.{Name}
 use Rattle.ioa_value.specs.Plain.{Val}
 use Rattle.ioa_tree.specs.Hosts.{Hosted}

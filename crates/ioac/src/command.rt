@@ -97,7 +97,6 @@ fn perform<
 
 /// Does what is read of a command line without a fault.
 fn perform_read<
-    'a,
     H: Threads + Wait + Clock + Sync,
     F: Store,
     R: InputDevice,
@@ -106,7 +105,7 @@ fn perform_read<
 >(
     rt: &H,
     alloc: Global,
-    matches: &'a ArgMatches<'a>,
+    matches: &ArgMatches<'_>,
     store: &mut F,
     input: &mut Tee<R>,
     output: &mut W,

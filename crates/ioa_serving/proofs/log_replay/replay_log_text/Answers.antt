@@ -1,11 +1,9 @@
-use Rattle.std.proofs.Common.{◌≡◌, ◌⊎◌, inl, inr, ◌∙◌, Err, ap, sym}
+use Rattle.std.proofs.Common.{◌⊎◌, inl, inr, Err, ap}
 use Rattle.std.specs.Option.{option_copied}
 use Rattle.std.proofs.lemmas.Option.{IfSome_then}
 use Rattle.std.proofs.lemmas.Result.{err_from_is_err_and}
 use Rattle.ioa_system.specs.Outcomes.{ending_of}
-use Rattle.ioa_log.specs.declared.failure.LogErr.{LogErr}
 use Rattle.ioa_log.specs.Failing.{HasFailed}
-use Rattle.ioa_serving.specs.declared.failure.Failure.{Failure}
 use Rattle.ioa_serving.specs.Failing.{BeginsLogOf}
 use Rattle.ioa_serving.proofs.Refused.{err_so, kept, log_replay_refused, log_replay_ungiven, log_replay_unwritten}
 use Rattle.ioa_serving.proofs.Subjects.{as_compiled, log_beginning_as, log_replay_as, no_log_as, runs_as}

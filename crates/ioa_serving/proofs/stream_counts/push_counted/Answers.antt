@@ -4,7 +4,7 @@ use Rattle.ioa_compile.specs.Programs.{Prog}
 use Rattle.ioa_system.specs.Outcomes.{ending_of}
 use Rattle.ioa_watch.specs.declared.watcher.Watcher.{Watcher}
 use Rattle.ioa_watch.specs.Names.{shown}
-use Rattle.ioa_serving.specs.Counting.{counts_line, full_line, is_full, taken_text}
+use Rattle.ioa_serving.specs.Counting.{counts_line, full_line, taken_text}
 use Rattle.ioa_serving.proofs.Counting.{lines_are}
 use Rattle.ioa_serving.proofs.stream_counts.push_counted.Goals as goal
 
