@@ -25,7 +25,7 @@ _ioac() {
     run) options='--comp --alone --turns --seed --words --seeds --inputs --resume --log --reports --explain --help' ;;
     monitor) options='--comp --explain --help' ;;
     watch) options='--comp --first --explain --help' ;;
-    chart) options='--comp --explain --help' ;;
+    chart) options='--comp --from --to --without --explain --help' ;;
     graph) options='--comp --explain --help' ;;
     explain) options='--explain --help' ;;
     library) options='--explain --help' ;;
@@ -34,7 +34,7 @@ _ioac() {
   esac
   case $before in
     --comp) mapfile -t COMPREPLY < <(compgen -W "$(_ioac_compositions "${COMP_WORDS[@]:2}")" -- "$word") ;;
-    --turns | --seed | --seeds) COMPREPLY=() ;;
+    --turns | --seed | --seeds | --from | --to | --without) COMPREPLY=() ;;
     --words | --inputs | --resume) mapfile -t COMPREPLY < <(compgen -f -- "$word") ;;
     *)
       case ${COMP_WORDS[1]}:$word in

@@ -1,4 +1,5 @@
 pub mod Lines
+pub mod Selections
 pub mod Charts
 pub mod Graphs
 pub mod Edges

@@ -8,4 +8,4 @@ mod laws;
 
 pub use charts::Chart;
 pub use graphs::graph;
-pub use laws::{edges_are_actions, labels_need_no_escape};
+pub use laws::{edges_are_actions, labels_need_no_escape, whole_charts_draw_each_entry};

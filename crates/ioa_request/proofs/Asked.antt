@@ -12,11 +12,13 @@ use Rattle.clap.specs.declared.parser.matches.ArgMatches.TheViews.{out-ArgMatche
 use Rattle.clap.proofs.WalkLemmas.{first_value-rows}
 use Rattle.ioa_request.specs.declared.request.Request.{Request}
 use Rattle.ioa_request.specs.declared.seeds.Seeds.{Seeds}
+use Rattle.ioa_request.specs.declared.selection.Selection.{Selection}
 use Rattle.ioa_request.specs.declared.settings.Settings.{Settings}
 use Rattle.ioa_request.specs.declared.topic.Topic.{Topic}
 use Rattle.ioa_request.specs.Pasted.{IsPasted, texts}
-use Rattle.ioa_request.specs.CommandLine.{AreSeeds, AreSettings, IsAskedBy, Names, is_set}
+use Rattle.ioa_request.specs.CommandLine.{AreSeeds, AreSelected, AreSettings, IsAskedBy, Names, is_set}
 use Rattle.ioa_request.specs.Seeds.{range_in}
+use Rattle.ioa_request.specs.Selections.{are_in_order, bound_in}
 use Rattle.ioa_request.specs.Settings.{source_in, source_of, turns_in}
 
 name_in : (m : ArgMatches) → subcommand_name_of m ≡ option_map (λ p. p.0) (subcommand_rows_of m)
@@ -72,7 +74,7 @@ no_file word rows other another none (Request.ReplayInvariants file composition)
 no_file word rows other another none (Request.Log file composition) h = let z : None ≡ Some file.now = sym none ∙ h.1.0 in cc
 no_file word rows other another none (Request.Monitor file composition) h = let z : None ≡ Some file.now = sym none ∙ h.1.0 in cc
 no_file word rows other another none (Request.Watch file compositions first counts) h = let z : None ≡ Some file.now = sym none ∙ h.1 in cc
-no_file word rows other another none (Request.Chart file composition) h = let z : None ≡ Some file.now = sym none ∙ h.1.0 in cc
+no_file word rows other another none (Request.Chart file composition selection) h = let z : None ≡ Some file.now = sym none ∙ h.1.0 in cc
 no_file word rows other another none (Request.Graph file composition) h = let z : None ≡ Some file.now = sym none ∙ h.1.0 in cc
 no_file word rows other another none (Request.Run s) h = let z : None ≡ Some s.file.now = sym none ∙ h.2.names.0 in cc
 no_file word rows other another none (Request.Seeds s) h = let z : None ≡ Some s.run.file.now = sym none ∙ h.1.run.names.0 in cc
@@ -93,7 +95,7 @@ no_explanation rows none (Request.ReplayInvariants file composition) h = apart (
 no_explanation rows none (Request.Log file composition) h = apart (codes "explain") (codes "log") refl refl h.0
 no_explanation rows none (Request.Monitor file composition) h = apart (codes "explain") (codes "monitor") refl refl h.0
 no_explanation rows none (Request.Watch file compositions first counts) h = apart (codes "explain") (codes "watch") refl refl h.0
-no_explanation rows none (Request.Chart file composition) h = apart (codes "explain") (codes "chart") refl refl h.0
+no_explanation rows none (Request.Chart file composition selection) h = apart (codes "explain") (codes "chart") refl refl h.0
 no_explanation rows none (Request.Graph file composition) h = apart (codes "explain") (codes "graph") refl refl h.0
 no_explanation rows none (Request.Run s) h = apart (codes "explain") (codes "run") refl refl h.0
 no_explanation rows none (Request.Seeds s) h = apart (codes "explain") (codes "run") refl refl h.0
@@ -113,7 +115,7 @@ no_out rows none (Request.ReplayInvariants file composition) h = apart (codes "c
 no_out rows none (Request.Log file composition) h = apart (codes "compile") (codes "log") refl refl h.0
 no_out rows none (Request.Monitor file composition) h = apart (codes "compile") (codes "monitor") refl refl h.0
 no_out rows none (Request.Watch file compositions first counts) h = apart (codes "compile") (codes "watch") refl refl h.0
-no_out rows none (Request.Chart file composition) h = apart (codes "compile") (codes "chart") refl refl h.0
+no_out rows none (Request.Chart file composition selection) h = apart (codes "compile") (codes "chart") refl refl h.0
 no_out rows none (Request.Graph file composition) h = apart (codes "compile") (codes "graph") refl refl h.0
 no_out rows none (Request.Run s) h = apart (codes "compile") (codes "run") refl refl h.0
 no_out rows none (Request.Seeds s) h = apart (codes "compile") (codes "run") refl refl h.0
@@ -133,7 +135,7 @@ no_specification rows none (Request.ReplayInvariants file composition) h = apart
 no_specification rows none (Request.Log file composition) h = apart (codes "watch") (codes "log") refl refl h.0
 no_specification rows none (Request.Monitor file composition) h = apart (codes "watch") (codes "monitor") refl refl h.0
 no_specification rows none (Request.Watch file compositions first counts) h = let z : None ≡ Some (texts compositions.now) = sym none ∙ h.2 in cc
-no_specification rows none (Request.Chart file composition) h = apart (codes "watch") (codes "chart") refl refl h.0
+no_specification rows none (Request.Chart file composition selection) h = apart (codes "watch") (codes "chart") refl refl h.0
 no_specification rows none (Request.Graph file composition) h = apart (codes "watch") (codes "graph") refl refl h.0
 no_specification rows none (Request.Run s) h = apart (codes "watch") (codes "run") refl refl h.0
 no_specification rows none (Request.Seeds s) h = apart (codes "watch") (codes "run") refl refl h.0
@@ -142,6 +144,26 @@ no_specification rows none (Request.Compile file out composition) h = apart (cod
 no_specification rows none (Request.Dump file) h = apart (codes "watch") (codes "dump") refl refl h.0
 no_specification rows none (Request.Explain topic) h = apart (codes "watch") (codes "explain") refl refl h.0
 no_specification rows none Request.Library h = apart (codes "watch") (codes "library") refl refl h
+
+-- where the entries that are asked for are none
+pub no_selection : (rows : List Row) → ((s : Selection) → AreSelected rows s → ⊥) → AsksNothing (Some (codes "chart", rows))
+no_selection rows none (Request.Replay file composition) h = apart (codes "chart") (codes "replay") refl refl h.0.0
+no_selection rows none (Request.ReplayStates file composition) h = apart (codes "chart") (codes "replay") refl refl h.0.0
+no_selection rows none (Request.ReplayLog file composition) h = apart (codes "chart") (codes "replay") refl refl h.0.0
+no_selection rows none (Request.ReplayLogStates file composition) h = apart (codes "chart") (codes "replay") refl refl h.0.0
+no_selection rows none (Request.ReplayInvariants file composition) h = apart (codes "chart") (codes "replay") refl refl h.0.0
+no_selection rows none (Request.Log file composition) h = apart (codes "chart") (codes "log") refl refl h.0
+no_selection rows none (Request.Monitor file composition) h = apart (codes "chart") (codes "monitor") refl refl h.0
+no_selection rows none (Request.Watch file compositions first counts) h = apart (codes "chart") (codes "watch") refl refl h.0
+no_selection rows none (Request.Chart file composition selection) h = none selection h.2
+no_selection rows none (Request.Graph file composition) h = apart (codes "chart") (codes "graph") refl refl h.0
+no_selection rows none (Request.Run s) h = apart (codes "chart") (codes "run") refl refl h.0
+no_selection rows none (Request.Seeds s) h = apart (codes "chart") (codes "run") refl refl h.0
+no_selection rows none (Request.Check file compositions) h = apart (codes "chart") (codes "check") refl refl h.0
+no_selection rows none (Request.Compile file out composition) h = apart (codes "chart") (codes "compile") refl refl h.0
+no_selection rows none (Request.Dump file) h = apart (codes "chart") (codes "dump") refl refl h.0
+no_selection rows none (Request.Explain topic) h = apart (codes "chart") (codes "explain") refl refl h.0
+no_selection rows none Request.Library h = apart (codes "chart") (codes "library") refl refl h
 
 -- where the invariants of a list are asked for
 pub no_log : (word : Text) (rows : List Row) → word ≡ codes "replay" → is_set (codes "log") rows ≡ false → is_set (codes "invariants") rows ≡ true → AsksNothing (Some (word, rows))
@@ -153,7 +175,7 @@ no_log word rows is log invariants (Request.ReplayInvariants file composition) h
 no_log word rows is log invariants (Request.Log file composition) h = apart (codes "replay") (codes "log") refl refl (sym is ∙ h.0)
 no_log word rows is log invariants (Request.Monitor file composition) h = apart (codes "replay") (codes "monitor") refl refl (sym is ∙ h.0)
 no_log word rows is log invariants (Request.Watch file compositions first counts) h = apart (codes "replay") (codes "watch") refl refl (sym is ∙ h.0)
-no_log word rows is log invariants (Request.Chart file composition) h = apart (codes "replay") (codes "chart") refl refl (sym is ∙ h.0)
+no_log word rows is log invariants (Request.Chart file composition selection) h = apart (codes "replay") (codes "chart") refl refl (sym is ∙ h.0)
 no_log word rows is log invariants (Request.Graph file composition) h = apart (codes "replay") (codes "graph") refl refl (sym is ∙ h.0)
 no_log word rows is log invariants (Request.Run s) h = apart (codes "replay") (codes "run") refl refl (sym is ∙ h.0)
 no_log word rows is log invariants (Request.Seeds s) h = apart (codes "replay") (codes "run") refl refl (sym is ∙ h.0)
@@ -173,7 +195,7 @@ no_both word rows is invariants states (Request.ReplayInvariants file compositio
 no_both word rows is invariants states (Request.Log file composition) h = apart (codes "replay") (codes "log") refl refl (sym is ∙ h.0)
 no_both word rows is invariants states (Request.Monitor file composition) h = apart (codes "replay") (codes "monitor") refl refl (sym is ∙ h.0)
 no_both word rows is invariants states (Request.Watch file compositions first counts) h = apart (codes "replay") (codes "watch") refl refl (sym is ∙ h.0)
-no_both word rows is invariants states (Request.Chart file composition) h = apart (codes "replay") (codes "chart") refl refl (sym is ∙ h.0)
+no_both word rows is invariants states (Request.Chart file composition selection) h = apart (codes "replay") (codes "chart") refl refl (sym is ∙ h.0)
 no_both word rows is invariants states (Request.Graph file composition) h = apart (codes "replay") (codes "graph") refl refl (sym is ∙ h.0)
 no_both word rows is invariants states (Request.Run s) h = apart (codes "replay") (codes "run") refl refl (sym is ∙ h.0)
 no_both word rows is invariants states (Request.Seeds s) h = apart (codes "replay") (codes "run") refl refl (sym is ∙ h.0)
@@ -253,3 +275,31 @@ unranged found word r there none is =
 pub range_read : (found : ArgMatches) (word : Text) (p : ℕ × ℕ) → Some word ≡ first_value (found_of found) (codes "seeds") → Some p ≡ range_in word
     → option_and_then range_in (first_of (codes "seeds") (rows_of (found_of found))) ≡ Some p
 range_read found word p there e = ap (option_and_then range_in) (given found (codes "seeds") (Some word) there) ∙ sym e
+
+-- ---- charts
+
+-- the entries that are asked for are none
+abbrev pub SelectsNothing : List Row → Type 0
+SelectsNothing rows = (s : Selection) → AreSelected rows s → ⊥
+
+-- a bound, as its word is lent
+pub bound_read : (found : ArgMatches) (name : Text) (o : Option Text) (b : Option (Option ℕ)) → o ≡ first_value (found_of found) name → b ≡ bound_in o
+    → bound_in (first_of name (rows_of (found_of found))) ≡ b
+bound_read found name o b there is = ap bound_in (given found name o there) ∙ sym is
+
+-- a first or a last index that is no number
+pub unbounded_from : (found : ArgMatches) (o : Option Text) → o ≡ first_value (found_of found) (codes "from") → None ≡ bound_in o → SelectsNothing (rows_of (found_of found))
+unbounded_from found o there none s h = let z : None ≡ Some s.from = sym (bound_read found (codes "from") o None there none) ∙ h.from in cc
+
+pub unbounded_to : (found : ArgMatches) (o : Option Text) → o ≡ first_value (found_of found) (codes "to") → None ≡ bound_in o → SelectsNothing (rows_of (found_of found))
+unbounded_to found o there none s h = let z : None ≡ Some s.to = sym (bound_read found (codes "to") o None there none) ∙ h.to in cc
+
+-- bounds of which the first is greater
+pub unordered : (found : ArgMatches) (first last : Option Text) (from to : Option ℕ) → first ≡ first_value (found_of found) (codes "from") → Some from ≡ bound_in first
+    → last ≡ first_value (found_of found) (codes "to") → Some to ≡ bound_in last → false ≡ are_in_order from to → SelectsNothing (rows_of (found_of found))
+unordered found first last from to there a behind b out s h =
+    let one : Some from ≡ Some s.from = sym (bound_read found (codes "from") first (Some from) there a) ∙ h.from in
+    let two : Some to ≡ Some s.to = sym (bound_read found (codes "to") last (Some to) behind b) ∙ h.to in
+    let same : from ≡ s.from = cc in
+    let alike : to ≡ s.to = cc in
+    false≢true (out ∙ ap₂ are_in_order same alike ∙ h.order)

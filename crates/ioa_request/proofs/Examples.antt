@@ -196,3 +196,17 @@ two_specifications = refl
 watched_by_none : fault_of ioac_app (codes "ioac" ∷ codes "watch" ∷ codes "f" ∷ []) ≡ kinds.MissingRequiredArgument ∷ []
 unfolding clap_on_literals
 watched_by_none = refl
+
+-- the bounds of a chart and the names that it leaves out, as they are spelled
+charted : List Text → Option (Text × Option Text × Option Text × Option (List Text))
+charted words = option_map (λ p. (p.0, first_of (codes "from") p.1, first_of (codes "to") p.1, all_of (codes "without") p.1)) (subcommand_of ioac_app words)
+
+charted_between :
+    charted (codes "ioac" ∷ codes "chart" ∷ codes "f" ∷ codes "--from" ∷ codes "2" ∷ codes "--without" ∷ codes "a" ∷ codes "--to" ∷ codes "9" ∷ codes "--without" ∷ codes "b" ∷ [])
+    ≡ Some (codes "chart", Some (codes "2"), Some (codes "9"), Some (codes "a" ∷ codes "b" ∷ []))
+unfolding charted clap_on_literals
+charted_between = refl
+
+charted_whole : charted (codes "ioac" ∷ codes "chart" ∷ codes "f" ∷ []) ≡ Some (codes "chart", None, None, None)
+unfolding charted clap_on_literals
+charted_whole = refl

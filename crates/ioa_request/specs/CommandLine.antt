@@ -10,9 +10,11 @@ use Rattle.clap.specs.declared.builder.command.Command.{Command}
 use Rattle.clap.specs.declared.builder.command.Command.TheViews.{out-Command}
 use Rattle.ioa_request.specs.declared.request.Request.{Request}
 use Rattle.ioa_request.specs.declared.seeds.Seeds.{Seeds}
+use Rattle.ioa_request.specs.declared.selection.Selection.{Selection}
 use Rattle.ioa_request.specs.declared.settings.Settings.{Settings}
 use Rattle.ioa_request.specs.Pasted.{IsPasted, texts}
 use Rattle.ioa_request.specs.Seeds.{range_in}
+use Rattle.ioa_request.specs.Selections.{are_in_order, bound_in, names_in}
 use Rattle.ioa_request.specs.Settings.{source_in, source_of, turns_in}
 
 -- words that have to stand
@@ -53,6 +55,18 @@ compositions_rule = record (new_rule (codes "compositions")) { long = Some (code
 -- `--states`
 abbrev pub states_rule : Rule
 states_rule = record (new_rule (codes "states")) { long = Some (codes "states"); action = Some ArgAction.SetTrue }
+
+-- `--from N`
+abbrev pub from_rule : Rule
+from_rule = record (new_rule (codes "from")) { long = Some (codes "from"); value_names = 1 }
+
+-- `--to M`
+abbrev pub to_rule : Rule
+to_rule = record (new_rule (codes "to")) { long = Some (codes "to"); value_names = 1 }
+
+-- `--without NAME`, once for each name
+abbrev pub without_rule : Rule
+without_rule = record (new_rule (codes "without")) { long = Some (codes "without"); action = Some ArgAction.Append; value_names = 1 }
 
 -- `--alone`
 abbrev pub alone_rule : Rule
@@ -119,7 +133,8 @@ abbrev pub watch_app : App
 watch_app = with_rule (with_rule (with_rule (with_rule (new_app (codes "watch")) file_rule) specification_rule) first_rule) explain_rule
 
 abbrev pub chart_app : App
-chart_app = with_rule (with_rule (with_rule (new_app (codes "chart")) file_rule) comp_rule) explain_rule
+chart_app =
+    with_rule (with_rule (with_rule (with_rule (with_rule (with_rule (new_app (codes "chart")) file_rule) comp_rule) from_rule) to_rule) without_rule) explain_rule
 
 abbrev pub graph_app : App
 graph_app = with_rule (with_rule (with_rule (new_app (codes "graph")) file_rule) comp_rule) explain_rule
@@ -195,6 +210,13 @@ pub record AreSeeds (rows : List Row) (s : Seeds) : Type 0 where
   pub admitted : admits_seeds rows ≡ true
   pub range : option_and_then range_in (first_of (codes "seeds") rows) ≡ Some (s.first, s.last)
 
+-- the entries of this selection are what a subcommand's values ask for
+pub record AreSelected (rows : List Row) (s : Selection) : Type 0 where
+  pub from : bound_in (first_of (codes "from") rows) ≡ Some s.from
+  pub to : bound_in (first_of (codes "to") rows) ≡ Some s.to
+  pub order : are_in_order s.from s.to ≡ true
+  pub without : texts s.without.now ≡ names_in (all_of (codes "without") rows)
+
 -- a subcommand with its values, if there is one, asks for this; a replay of a list cannot be asked for invariants, and no replay for
 -- invariants and states
 abbrev pub IsAskedBy : Option (Text × List Row) → Request → Type 0
@@ -214,7 +236,8 @@ IsAskedBy (Some found) (Request.Monitor file composition) = (found.0 ≡ codes "
 IsAskedBy (Some found) (Request.Watch file compositions first counts) =
     (found.0 ≡ codes "watch") × (first_of (codes "FILE") found.1 ≡ Some file.now) × (all_of (codes "comp") found.1 ≡ Some (texts compositions.now))
     × (is_set (codes "first") found.1 ≡ first) × (is_set (codes "explain") found.1 ≡ counts)
-IsAskedBy (Some found) (Request.Chart file composition) = (found.0 ≡ codes "chart") × Names found.1 file.now (option_copied composition)
+IsAskedBy (Some found) (Request.Chart file composition selection) =
+    (found.0 ≡ codes "chart") × Names found.1 file.now (option_copied composition) × AreSelected found.1 selection
 IsAskedBy (Some found) (Request.Graph file composition) = (found.0 ≡ codes "graph") × Names found.1 file.now (option_copied composition)
 IsAskedBy (Some found) (Request.Run settings) = (found.0 ≡ codes "run") × (first_of (codes "seeds") found.1 ≡ None) × AreSettings found.1 settings
 IsAskedBy (Some found) (Request.Seeds seeds) = (found.0 ≡ codes "run") × AreSeeds found.1 seeds

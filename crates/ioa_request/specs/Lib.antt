@@ -6,4 +6,5 @@ pub mod Keys
 pub mod Numerals
 pub mod Pasted
 pub mod Seeds
+pub mod Selections
 pub mod Settings

@@ -1,13 +1,15 @@
-//! What the words of a command line ask for: a `Request`, with `Settings` where it is a run, and
-//! `Seeds` where it is one for each of many seeds. No file is read for it. Each `Code` and each
+//! What the words of a command line ask for: a `Request`, with `Settings` where it is a run,
+//! `Seeds` where it is one for each of many seeds, and a `Selection` of a log's entries where it is a chart. No file is read for it. Each `Code` and each
 //! `Topic` of what the program prints has an explanation here.
 #![tactic(auto)]
 
 // What is asked for.
+mod chart_usage;
 mod reading;
 mod request;
 mod run_usage;
 mod seeds;
+mod selection;
 mod settings;
 mod watch_usage;
 
@@ -30,5 +32,6 @@ pub use numerals::numeral;
 pub use reading::{is_explained, is_set, read_request};
 pub use request::{Request, parse};
 pub use seeds::{Seeds, is_given, read_range};
+pub use selection::{Selection, read_bound};
 pub use settings::{Settings, WordsFrom, read_turns};
 pub use topic::Topic;

@@ -10,11 +10,13 @@ ghost use Rattle.ioa_request.specs.declared.request.Request.{Request};
 use crate::pasted::pasted;
 use crate::request::Request;
 use crate::seeds::{is_given, read_seeds};
+use crate::selection::read_selection;
 use crate::settings::read_settings;
 use clap::ArgMatches;
 
 /// The request of a command line without a fault. None where a word is missing, which a parse rules out, where there is nothing to explain,
-/// where the invariants of a list are asked for, or invariants and states, or where the settings of a run, or of runs by many seeds, are none.
+/// where the invariants of a list are asked for, or invariants and states, or where the settings of a run, or of runs by many seeds, or the bounds
+/// of a chart, are none.
 pub fn read_request<'m>(matches: &'m ArgMatches<'_>) -> Option<Request<'m>>
     ensures some { IfSome result (λ asked. IsAskedBy (subcommand_rows_of matches.now) asked) }
     ensures none { IfNone result ((asked : Request) → IsAskedBy (subcommand_rows_of matches.now) asked → ⊥) }
@@ -136,7 +138,12 @@ fn read_chart<'m>(found: &'m ArgMatches<'_>) -> Option<Request<'m>>
     ensures none { IfNone result ((asked : Request) → IsAskedBy (Some (codes "chart", rows_of (found_of found.now))) asked → ⊥) }
 {
     let (file, composition) = read_names(found)?;
-    Some(Request::Chart { file, composition })
+    let selection = read_selection(found)?;
+    Some(Request::Chart {
+        file,
+        composition,
+        selection,
+    })
 }
 
 fn read_graph<'m>(found: &'m ArgMatches<'_>) -> Option<Request<'m>>

@@ -2,10 +2,12 @@
 
 ghost use Rattle.std.specs.Prelude.{◌≡◌, false, map, codes, IfOk, IsOkAnd};
 ghost use Rattle.clap.specs.Words.{FailsBy, app_of, fault_of, new_app, rule_of, shape_of, subcommand_of, subcommand_rows_of, with_subcommand};
-ghost use Rattle.ioa_request.specs.CommandLine.{IsLocal, chart_app, check_app, comp_rule, compile_app, compositions_rule, dump_app, explain_app, explain_rule, file_rule, graph_app, invariants_rule, ioac_app, library_app, log_app, log_rule, monitor_app, out_rule, replay_app, states_rule, text_rule};
+ghost use Rattle.ioa_request.specs.CommandLine.{IsLocal, check_app, comp_rule, compile_app, compositions_rule, dump_app, explain_app, explain_rule, file_rule, graph_app, invariants_rule, ioac_app, library_app, log_app, log_rule, monitor_app, out_rule, replay_app, states_rule, text_rule};
 
+use crate::chart_usage::chart_command;
 use crate::run_usage::run_command;
 use crate::seeds::Seeds;
+use crate::selection::Selection;
 use crate::settings::Settings;
 use crate::topic::Topic;
 use crate::watch_usage::watch_command;
@@ -68,6 +70,8 @@ pub enum Request<'a> {
     Chart {
         file: &'a str,
         composition: Option<&'a str>,
+        /// Which of the log's entries are drawn.
+        selection: Selection<'a>,
     },
     /// To draw a composition of a source, or an object, as a graph.
     Graph {
@@ -356,24 +360,6 @@ fn monitor_command<'a>(alloc: Global) -> Result<Command<'a>, AllocError>
              Example: ioac monitor specification.ioa < run.log\n\
              Exit status: 0 accepted, 1 source or object refused, 2 bad command line,\n\
              4 not accepted, log refused, or no monitor, 5 memory, the file or a device.",
-        )
-        .arg(file_argument(alloc))?
-        .arg(composition_option(alloc))?
-        .arg(explain_flag(alloc))
-}
-
-fn chart_command<'a>(alloc: Global) -> Result<Command<'a>, AllocError>
-    ensures app { IfOk result (λ command. app_of command ≡ chart_app) }
-    ensures local { IfOk result IsLocal }
-{
-    Command::new(alloc, "chart")
-        .about("Reads a log on standard input, and prints a sequence diagram of it for Mermaid")
-        .after_help(
-            "The log has to be of the composition's run. Each action is an arrow from the component that owns it, or from the environment,\n\
-             to each other component that has it; where there is none, it is a note over its owner. A fault is a note, too.\n\
-             Example: ioac chart protocol.ioa < run.log\n\
-             Exit status: 0 done, 1 source or object refused, 2 bad command line, 3 ended by a fault,\n\
-             4 log refused, 5 memory, the file or a device.",
         )
         .arg(file_argument(alloc))?
         .arg(composition_option(alloc))?

@@ -28,6 +28,7 @@ use Rattle.ioa_serving.specs.Carried.{ChartsAsSource, GraphsAsSource, LogsListsA
 use Rattle.ioa_serving.specs.Compiling.{IsCompiled}
 use Rattle.ioa_serving.specs.Headline.{IsFileOf, begins_object}
 use Rattle.ioa_serving.specs.Logs.{Monitors, ReplaysLog, performed_in}
+use Rattle.ioa_picture.specs.Selections.{Selection}
 use Rattle.ioa_serving.specs.Pictures.{ChartsLog}
 use Rattle.ioa_serving.specs.Subjects.{Subject, of_hosts, its_components, its_hidden, its_starts, its_types, of_table}
 use Rattle.ioa_serving.proofs.Pictured.{charted_as}
@@ -65,12 +66,13 @@ module _ (p : Prog) (h : Hosted) (c : Composed) (s : Simulates h c) (m : Impleme
       writes_alike c.types h.types (components_of c) (starts_of c) (hosts_of h) (host_starts h) (hosts_alike h c s) bytes end before after
       (writes_alike p.types c.types (tabled p) (start_states p) (components_of c) (starts_of c) (source_alike p c m) bytes end before after k)
 
-  hosts_chart : (bytes : List ℕ) (end : Ending) (before after : Option (List ℕ)) → ChartsLog (of_table p) bytes end before after → ChartsLog (of_hosts h) bytes end before after
-  hosts_chart bytes end before after (log, (reads, agree), ends, text) = (
+  hosts_chart : (selection : Selection) (bytes : List ℕ) (end : Ending) (before after : Option (List ℕ)) → ChartsLog selection (of_table p) bytes end before after
+      → ChartsLog selection (of_hosts h) bytes end before after
+  hosts_chart selection bytes end before after (log, (reads, agree), ends, text) = (
     log,
     (subst (λ ts. ReadsLog ts bytes log) (m.types ∙ s.types) reads, hosts_judged h c s log agrees (judged_means p c log m ∙ agree)),
     ends ∙ same_ending (actions_of log),
-    subst (λ (bs : List ℕ). Appends before after bs) (charted_as p (of_hosts h) log (c, s, m)) text,
+    subst (λ (bs : List ℕ). Appends before after bs) (charted_as selection p (of_hosts h) log (c, s, m)) text,
   )
 
   hosts_monitor : (bytes : List ℕ) (answer : Option Ending) (before after : Option (List ℕ)) → Monitors (of_table p) bytes answer before after → Monitors (of_hosts h) bytes answer before after
@@ -110,8 +112,8 @@ list_logs_as_source text object name of bytes end before after =
     (λ p h c s m k. hosts_log p h c s m bytes end before after k)
 
 pub charts_as_source : ChartsAsSource
-charts_as_source text object name of bytes end before after =
-    carried (λ x. ChartsLog x bytes end before after) text object name of (λ p h c s m k. hosts_chart p h c s m bytes end before after k)
+charts_as_source text object name of selection bytes end before after =
+    carried (λ x. ChartsLog selection x bytes end before after) text object name of (λ p h c s m k. hosts_chart p h c s m selection bytes end before after k)
 
 pub graphs_as_source : GraphsAsSource
 graphs_as_source text object name of before after (h, gives, (p, runs, is)) (q, (of_hosts k, given, other), drawn) = absurd (false≢true (sym given.0 ∙ begins object p is))

@@ -10,6 +10,7 @@ use Rattle.ioa_tree.specs.Runs.{Ending}
 use Rattle.ioa_compile.specs.Programs.{Prog}
 use Rattle.ioa_compile.specs.Tables.{start_states, tabled}
 use Rattle.ioa_system.specs.Logs.{Logged}
+use Rattle.ioa_picture.specs.Selections.{Selection}
 use Rattle.ioa_run.specs.declared.report.Report.{Report}
 use Rattle.ioa_run.specs.Boards.{IsSound, Standing}
 use Rattle.ioa_run.specs.Hosts.{BoardsLike, Held}
@@ -38,10 +39,10 @@ abbrev pub LogsListsAsSource : Type 0
 LogsListsAsSource = (text object : List ℕ) (name of : Option Name) (bytes : List ℕ) (end : Ending) (before after : Option (List ℕ))
     → IsCompiled text name object → IsListLog object of bytes end before after → IsListLog text name bytes end before after
 
--- of the chart of a log
+-- of the chart of a log, whatever of it is drawn
 abbrev pub ChartsAsSource : Type 0
-ChartsAsSource = (text object : List ℕ) (name of : Option Name) (bytes : List ℕ) (end : Ending) (before after : Option (List ℕ))
-    → IsCompiled text name object → IsLogChart object of bytes end before after → IsLogChart text name bytes end before after
+ChartsAsSource = (text object : List ℕ) (name of : Option Name) (selection : Selection) (bytes : List ℕ) (end : Ending) (before after : Option (List ℕ))
+    → IsCompiled text name object → IsLogChart object of selection bytes end before after → IsLogChart text name selection bytes end before after
 
 -- of a graph
 abbrev pub GraphsAsSource : Type 0

@@ -22,7 +22,7 @@ use Rattle.ioa_serving.specs.Libraries.{IsUnlisted}
 use Rattle.ioa_serving.specs.ListLogs.{BeginsListLogOf, IsListLog}
 use Rattle.ioa_serving.specs.Logs.{Found}
 use Rattle.ioa_serving.specs.RunReports.{wants_text}
-use Rattle.ioa_serving.specs.Pictures.{BeginsChartOf, IsGraphed, IsLogChart, IsUngraphed}
+use Rattle.ioa_serving.specs.Pictures.{BeginsChartOf, IsGraphed, IsLogChart, IsUngraphed, selected}
 use Rattle.ioa_serving.specs.Alone.{IsRunServed, IsRunUnserved}
 use Rattle.ioa_serving.specs.Seeds.{IsSeedsServed, IsSeedsUnserved}
 use Rattle.ioa_serving.specs.Failing.{IsFailure, IsInvariantFailure, IsLogReplayFailure, IsMonitorFailure, IsStatesFailure, IsUnwritten, BeginsReplayOf, BeginsLogOf, BeginsLogStatesOf, BeginsFoundOf, BeginsMonitorOf, BeginsStatesOf}
@@ -81,9 +81,9 @@ IsServed f (Request.Monitor file composition) input output told wants status =
 IsServed f (Request.Watch file compositions first counts) input output told wants status =
     (text : List ℕ) × f.holds file.now text
     × IsWatchServed text (texts compositions.now) first counts input.before.bytes output.before.bytes output.after.bytes told status
-IsServed f (Request.Chart file composition) input output told wants status =
+IsServed f (Request.Chart file composition selection) input output told wants status =
     (text : List ℕ) × f.holds file.now text
-    × ((end : Ending) × IfSome input.before.bytes (λ xs. IsLogChart text (option_copied composition) xs end output.before.bytes output.after.bytes) × (status ≡ ending_status end)) × (told ≡ None)
+    × ((end : Ending) × IfSome input.before.bytes (λ xs. IsLogChart text (option_copied composition) (selected selection) xs end output.before.bytes output.after.bytes) × (status ≡ ending_status end)) × (told ≡ None)
 IsServed f (Request.Graph file composition) input output told wants status =
     ((text : List ℕ) × f.holds file.now text × IsGraphed text (option_copied composition) output.before.bytes output.after.bytes) × (status ≡ Status.Done) × (told ≡ None)
 IsServed f (Request.Run settings) input output told wants status = IsRunServed f.holds settings output.before.bytes output.after.bytes told wants status
@@ -137,10 +137,10 @@ IsUnserved f (Request.Watch file compositions first counts) input output wants e
     IsUnread (f.lacks file.now) output e
     ⊎ ((text : List ℕ) × f.holds file.now text
     × IsWatchFailure text (texts compositions.now) first input.before.bytes (Failed input ⊎ Failed output) output.before.bytes output.after.bytes e)
-IsUnserved f (Request.Chart file composition) input output wants e =
+IsUnserved f (Request.Chart file composition selection) input output wants e =
     IsUnread (f.lacks file.now) output e
     ⊎ ((text : List ℕ) × f.holds file.now text × IsLogReplayFailure text (option_copied composition) input.before.bytes (Failed input ⊎ Failed output) e
-    × IsUnwritten (BeginsChartOf text (option_copied composition) input.before.bytes) output.before.bytes output.after.bytes e)
+    × IsUnwritten (BeginsChartOf text (option_copied composition) (selected selection) input.before.bytes) output.before.bytes output.after.bytes e)
 IsUnserved f (Request.Graph file composition) input output wants e =
     IsUnread (f.lacks file.now) output e
     ⊎ ((text : List ℕ) × f.holds file.now text × IsUngraphed text (option_copied composition) (Failed output) output.before.bytes output.after.bytes e)
@@ -167,7 +167,7 @@ IsReading (Request.ReplayInvariants file composition) = Unit {0}
 IsReading (Request.Log file composition) = Unit {0}
 IsReading (Request.Monitor file composition) = Unit {0}
 IsReading (Request.Watch file compositions first counts) = Unit {0}
-IsReading (Request.Chart file composition) = Unit {0}
+IsReading (Request.Chart file composition selection) = Unit {0}
 IsReading (Request.Graph file composition) = ⊥
 IsReading (Request.Run settings) = ⊥
 IsReading (Request.Seeds seeds) = ⊥
@@ -187,7 +187,7 @@ IsRunning (Request.ReplayInvariants file composition) = ⊥
 IsRunning (Request.Log file composition) = ⊥
 IsRunning (Request.Monitor file composition) = ⊥
 IsRunning (Request.Watch file compositions first counts) = ⊥
-IsRunning (Request.Chart file composition) = ⊥
+IsRunning (Request.Chart file composition selection) = ⊥
 IsRunning (Request.Graph file composition) = ⊥
 IsRunning (Request.Run settings) = Unit {0}
 IsRunning (Request.Seeds seeds) = ⊥
@@ -207,7 +207,7 @@ IsSaving (Request.ReplayInvariants file composition) = ⊥
 IsSaving (Request.Log file composition) = ⊥
 IsSaving (Request.Monitor file composition) = ⊥
 IsSaving (Request.Watch file compositions first counts) = ⊥
-IsSaving (Request.Chart file composition) = ⊥
+IsSaving (Request.Chart file composition selection) = ⊥
 IsSaving (Request.Graph file composition) = ⊥
 IsSaving (Request.Run settings) = ⊥
 IsSaving (Request.Seeds seeds) = ⊥

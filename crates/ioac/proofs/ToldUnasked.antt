@@ -3,7 +3,7 @@ use Rattle.std.proofs.Common.{◌≡◌, Bool, List, Option, Some, None, refl, s
 use Rattle.std.specs.Str.{bytes_eq}
 use Rattle.clap.specs.Words.{Row, Text, first_of, first_value, found_of, rows_of, subcommand_name_of, subcommand_rows_of}
 use Rattle.clap.specs.declared.parser.matches.ArgMatches.{ArgMatches}
-use Rattle.ioac.specs.Telling.{asks_both, bad_request_text, bad_run_text, bad_run_text_by, bad_seeds_text, bad_settings_text, missing_log_text, unasked_text}
+use Rattle.ioac.specs.Telling.{asks_both, bad_bounds_text, bad_request_text, bad_run_text, bad_run_text_by, bad_seeds_text, bad_settings_text, missing_log_text, unasked_text}
 use Rattle.ioa_request.proofs.Asked.{given, lent}
 
 -- what is told of a run, and of another request
@@ -15,6 +15,17 @@ told_run m found name e f is =
     let here = lent m found name name e f refl in
     let chosen : unasked_text (Some (name, rows)) ≡ bad_run_text rows = rw is refl in
     sym chosen ∙ ap unasked_text (sym here)
+
+-- of a chart
+pub told_chart : (m found : ArgMatches) (name : Text) (from to : Option Text) → Some name ≡ subcommand_name_of m
+    → Some (rows_of (found_of found)) ≡ option_map (λ p. p.1) (subcommand_rows_of m) → bytes_eq name (codes "run") ≡ false → bytes_eq name (codes "chart") ≡ true
+    → from ≡ first_value (found_of found) (codes "from") → to ≡ first_value (found_of found) (codes "to")
+    → bad_bounds_text from to ≡ unasked_text (subcommand_rows_of m)
+told_chart m found name from to e f other is a b =
+    let rows = rows_of (found_of found) in
+    let here = lent m found name name e f refl in
+    let chosen : unasked_text (Some (name, rows)) ≡ bad_bounds_text (first_of (codes "from") rows) (first_of (codes "to") rows) = rw other (rw is refl) in
+    ap₂ bad_bounds_text (sym (given found (codes "from") from a)) (sym (given found (codes "to") to b)) ∙ sym chosen ∙ ap unasked_text (sym here)
 
 -- of a run whose settings are none
 pub told_settings : (found : ArgMatches) (turns seed file : Option Text) → None ≡ first_value (found_of found) (codes "seeds")
@@ -37,12 +48,12 @@ told_seeds found word turns there t =
 
 pub told_other : (m found : ArgMatches) (name : Text) (code : Option Text) (both : Bool) → Some name ≡ subcommand_name_of m
     → Some (rows_of (found_of found)) ≡ option_map (λ p. p.1) (subcommand_rows_of m) → bytes_eq name (codes "run") ≡ false
-    → code ≡ first_value (found_of found) (codes "TEXT") → both ≡ asks_both (rows_of (found_of found))
+    → bytes_eq name (codes "chart") ≡ false → code ≡ first_value (found_of found) (codes "TEXT") → both ≡ asks_both (rows_of (found_of found))
     → bad_request_text code both ≡ unasked_text (subcommand_rows_of m)
-told_other m found name code both e f is w b =
+told_other m found name code both e f other is w b =
     let rows = rows_of (found_of found) in
     let here = lent m found name name e f refl in
-    let chosen : unasked_text (Some (name, rows)) ≡ bad_request_text (first_of (codes "TEXT") rows) (asks_both rows) = rw is refl in
+    let chosen : unasked_text (Some (name, rows)) ≡ bad_request_text (first_of (codes "TEXT") rows) (asks_both rows) = rw other (rw is refl) in
     ap₂ bad_request_text (sym (given found (codes "TEXT") code w)) b ∙ sym chosen ∙ ap unasked_text (sym here)
 
 pub told_none : (m : ArgMatches) → None ≡ option_map (λ p. p.1) (subcommand_rows_of m) → missing_log_text ≡ unasked_text (subcommand_rows_of m)

@@ -1,6 +1,7 @@
 -- What is told on standard error.
-use Rattle.std.specs.Prelude.{◌≡◌, ℕ, ◌⊎◌, ◌++◌, ◌∷◌, ◌&&◌, Bool, true, false, if◌then◌else◌, is_some, List, Option, Some, None, take, codes}
+use Rattle.std.specs.Prelude.{◌≡◌, ℕ, ◌⊎◌, ◌++◌, ◌∷◌, ◌&&◌, Bool, true, false, if◌then◌else◌, is_some, List, [], Option, Some, None, take, codes}
 use Rattle.std.specs.List.{join_by}
+use Rattle.std.specs.Option.{option_map_or}
 use Rattle.std.specs.Str.{bytes_eq}
 use Rattle.clap.specs.Words.{Row, Text, first_of}
 use Rattle.ioa_serving.specs.declared.failure.Failure.{Failure}
@@ -10,6 +11,7 @@ use Rattle.ioa_request.specs.CommandLine.{is_set}
 use Rattle.ioa_serving.specs.Devices.{Change, Failed, Wrote}
 use Rattle.ioa_serving.specs.Printed.{failure_text}
 use Rattle.ioa_request.specs.Seeds.{range_in}
+use Rattle.ioa_request.specs.Selections.{bound_in}
 use Rattle.ioa_request.specs.Settings.{turns_in}
 use Rattle.ioa_serving.specs.Statuses.{failure_status}
 
@@ -120,6 +122,16 @@ bad_run_text_by (Some word) rows = bad_seeds_text word (first_of (codes "turns")
 abbrev pub bad_run_text : List Row → List ℕ
 bad_run_text rows = bad_run_text_by (first_of (codes "seeds") rows) rows
 
+-- of a last index that is no number, or less than the first
+abbrev pub bad_last_text : Option Text → List ℕ
+bad_last_text to = invalid_value_text (option_map_or (λ word. word) to []) (codes "--to <M>") (codes "a whole number of 64 bits, no less than N")
+
+-- of bounds of a chart: of a first index that is no number, or else of the last
+abbrev pub bad_bounds_text : Option Text → Option Text → List ℕ
+bad_bounds_text None to = bad_last_text to
+bad_bounds_text (Some word) to =
+    if is_some (bound_in (Some word)) then bad_last_text to else invalid_value_text word (codes "--from <N>") (codes "a whole number of 64 bits")
+
 -- invariants and states are asked for
 abbrev pub asks_both : List Row → Bool
 asks_both rows = is_set (codes "invariants") rows && is_set (codes "states") rows
@@ -139,4 +151,5 @@ abbrev pub unasked_text : Option (Text × List Row) → List ℕ
 unasked_text None = missing_log_text
 unasked_text (Some found) =
     if bytes_eq found.0 (codes "run") then bad_run_text found.1
+    else if bytes_eq found.0 (codes "chart") then bad_bounds_text (first_of (codes "from") found.1) (first_of (codes "to") found.1)
     else bad_request_text (first_of (codes "TEXT") found.1) (asks_both found.1)

@@ -13,7 +13,7 @@ ghost use Rattle.ioa_serving.specs.declared.failure.Failure.{Failure};
 ghost use Rattle.ioac.specs.Requests.{Fails, Serves};
 
 use ioa_log::{InputDevice, OutputDevice};
-use ioa_request::{Request, Topic};
+use ioa_request::{Request, Selection, Topic};
 use ioa_serving::explain::explain;
 use ioa_serving::{
     Failure, Finding, Ran, Served, Status, Store, chart_log_text, check_text, compile_file,
@@ -99,8 +99,12 @@ pub(crate) fn serve<H: Threads + Wait + Clock + Sync, F: Store, R: InputDevice, 
             ),
             None,
         ),
-        Request::Chart { file, composition } => (
-            chart(alloc, file, *composition, store, input, output),
+        Request::Chart {
+            file,
+            composition,
+            selection,
+        } => (
+            chart(alloc, file, *composition, selection, store, input, output),
             None,
         ),
         Request::Graph { file, composition } => {
@@ -286,17 +290,19 @@ fn chart<F: Store, R: InputDevice, W: OutputDevice>(
     alloc: Global,
     file: &str,
     composition: Option<&str>,
+    selection: &Selection<'_>,
     store: &F,
     input: &mut R,
     output: &mut W,
 ) -> Result<Served, Failure>
-    ensures served { IfOk result (λ s. Serves (read_only F.holds F.lacks store.now) (requests.Chart file.entry composition.entry) (change R.remaining R.failure_count input.old input.new) (change W.contents W.failure_count output.old output.new) s) }
-    ensures refused { IfErr result (λ e. Fails (read_only F.holds F.lacks store.now) (requests.Chart file.entry composition.entry) (change R.remaining R.failure_count input.old input.new) (change W.contents W.failure_count output.old output.new) e) }
+    ensures served { IfOk result (λ s. Serves (read_only F.holds F.lacks store.now) (requests.Chart file.entry composition.entry selection.now) (change R.remaining R.failure_count input.old input.new) (change W.contents W.failure_count output.old output.new) s) }
+    ensures refused { IfErr result (λ e. Fails (read_only F.holds F.lacks store.now) (requests.Chart file.entry composition.entry selection.now) (change R.remaining R.failure_count input.old input.new) (change W.contents W.failure_count output.old output.new) e) }
     ensures passed { (IsErrOf result (Failure.List LogErr.Io) → ⊥) → (R.failure_count input.new ≡ R.failure_count input.old) × (W.failure_count output.new ≡ W.failure_count output.old) }
     ensures once { FailedOnceAtMost (R.failure_count input.old) (R.failure_count input.new) × FailedOnceAtMost (W.failure_count output.old) (W.failure_count output.new) }
 {
     let text = store.load(alloc, file)?;
-    let end = chart_log_text(alloc, text.as_slice(), composition, input, output)?;
+    let bytes = text.as_slice();
+    let end = chart_log_text(alloc, bytes, composition, selection, input, output)?;
     Ok(silent(status_of(end)))
 }
 

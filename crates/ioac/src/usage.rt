@@ -15,7 +15,7 @@ use crate::telling::{put, put_short, reported};
 use clap::ArgMatches;
 use clap::error::ErrorKind;
 use ioa_log::{OutputDevice, send_all};
-use ioa_request::{Code, is_set, read_range, read_turns};
+use ioa_request::{Code, is_set, read_bound, read_range, read_turns};
 use ioa_serving::{Failure, Status};
 use std::alloc::{AllocError, Global};
 
@@ -74,7 +74,7 @@ fn shown<W: OutputDevice, E: OutputDevice>(
 }
 
 /// Tells of a command line that has no fault and asks for nothing, and answers the exit status. It asks for what there is no explanation of, for the
-/// invariants of a list, for invariants and states, or for a run whose settings are none.
+/// invariants of a list, for invariants and states, for a run whose settings are none, or for a chart within bounds that are none.
 pub fn told_unasked<E: OutputDevice>(
     alloc: Global,
     matches: &ArgMatches<'_>,
@@ -92,7 +92,7 @@ pub fn told_unasked<E: OutputDevice>(
 }
 
 /// What is wrong with what a command line asks for.
-#[tactic(auto, using(crate::proofs::ToldUnasked::told_run, crate::proofs::ToldUnasked::told_other, crate::proofs::ToldUnasked::told_none))]
+#[tactic(auto, using(crate::proofs::ToldUnasked::told_run, crate::proofs::ToldUnasked::told_chart, crate::proofs::ToldUnasked::told_other, crate::proofs::ToldUnasked::told_none))]
 fn unasked_text(alloc: Global, matches: &ArgMatches<'_>) -> Result<String, AllocError>
     ensures { IfOk result (λ text. string_bytes text ≡ telling.unasked_text (subcommand_rows_of matches.now)) }
 {
@@ -101,6 +101,9 @@ fn unasked_text(alloc: Global, matches: &ArgMatches<'_>) -> Result<String, Alloc
     };
     if name == "run" {
         return bad_run_text(alloc, found);
+    }
+    if name == "chart" {
+        return bad_bounds_text(alloc, found.get_str("from"), found.get_str("to"));
     }
     bad_request_text(alloc, found.get_str("TEXT"), asks_both(found))
 }
@@ -154,6 +157,38 @@ fn misplaced_seeds_text(alloc: Global) -> Result<String, AllocError>
     String::from_str(
         alloc,
         "error: the argument '--seeds <A..B>' needs '--alone', and cannot be used with '--seed', '--words', '--resume', '--log' or '--reports'\n\nFor more information, try '--help'.\n",
+    )
+}
+
+/// What is wrong with the bounds of a chart: with the first index, or else with the last.
+fn bad_bounds_text(
+    alloc: Global,
+    from: Option<&str>,
+    to: Option<&str>,
+) -> Result<String, AllocError>
+    ensures { IfOk result (λ text. string_bytes text ≡ telling.bad_bounds_text (option_copied from.entry) (option_copied to.entry)) }
+{
+    match from {
+        Some(word) if read_bound(from).is_none() => {
+            invalid_value_text(alloc, word, "--from <N>", "a whole number of 64 bits")
+        }
+        _ => bad_last_text(alloc, to),
+    }
+}
+
+/// What is wrong with a last index.
+fn bad_last_text(alloc: Global, to: Option<&str>) -> Result<String, AllocError>
+    ensures { IfOk result (λ text. string_bytes text ≡ telling.bad_last_text (option_copied to.entry)) }
+{
+    let word = match to {
+        Some(word) => word,
+        None => "",
+    };
+    invalid_value_text(
+        alloc,
+        word,
+        "--to <M>",
+        "a whole number of 64 bits, no less than N",
     )
 }
 

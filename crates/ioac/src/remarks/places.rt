@@ -128,7 +128,11 @@ pub fn source_of<'a>(asked: &Request<'a>) -> Option<(&'a str, Option<&'a str>)>
             compositions,
             ..
         } => Some((*file, compositions.first().copied())),
-        Request::Chart { file, composition } => Some((*file, *composition)),
+        Request::Chart {
+            file,
+            composition,
+            ..
+        } => Some((*file, *composition)),
         Request::Graph { file, composition } => Some((*file, *composition)),
         Request::Compile {
             file,

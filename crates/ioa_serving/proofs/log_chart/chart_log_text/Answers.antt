@@ -6,7 +6,7 @@ use Rattle.std.proofs.lemmas.Result.{err_from_is_err_and}
 use Rattle.ioa_log.specs.declared.failure.LogErr.{LogErr}
 use Rattle.ioa_log.specs.Failing.{HasFailed}
 use Rattle.ioa_serving.specs.declared.failure.Failure.{Failure}
-use Rattle.ioa_serving.specs.Pictures.{BeginsChartOf}
+use Rattle.ioa_serving.specs.Pictures.{BeginsChartOf, selected}
 use Rattle.ioa_serving.proofs.Refused.{err_so, kept, log_replay_refused, log_replay_ungiven}
 use Rattle.ioa_serving.proofs.Kept.{keeps_same}
 use Rattle.ioa_serving.proofs.log_chart.chart_log_text.Goals as goal
@@ -24,7 +24,7 @@ pub returns-in_err-program-clause-unwritten : goal.returns-in_err-program-clause
 returns-in_err-program-clause-unwritten g c =
     let e = err_from_is_err_and c.from_residual.result c.from_residual.ensures.1 in
     err_so c.from_residual.result e.0 _ _ e.1 e.2
-    (kept (BeginsChartOf c.args.text.now (option_copied c.args.composition) (g.R.Read.remaining c.args.input.now)) _ _ c.in_err-program.field-0.0
+    (kept (BeginsChartOf c.args.text.now (option_copied c.args.composition) (selected c.args.selection.now) (g.R.Read.remaining c.args.input.now)) _ _ c.in_err-program.field-0.0
     (keeps_same (g.W.Write.contents c.args.output.now)))
 
 pub returns-in_err-drawn-clause-refused : goal.returns-in_err-drawn-clause-refused
@@ -39,7 +39,7 @@ pub returns-in_err-drawn-clause-unwritten : goal.returns-in_err-drawn-clause-unw
 returns-in_err-drawn-clause-unwritten g c =
     let e = err_from_is_err_and c.from_residual-in_err-drawn.result c.from_residual-in_err-drawn.ensures.1 in
     err_so c.from_residual-in_err-drawn.result e.0 _ _ e.1 e.2
-    (kept (BeginsChartOf c.args.text.now (option_copied c.args.composition) (g.R.Read.remaining c.args.input.now)) _ _ (Failure.List c.in_err-drawn.field-0.0)
+    (kept (BeginsChartOf c.args.text.now (option_copied c.args.composition) (selected c.args.selection.now) (g.R.Read.remaining c.args.input.now)) _ _ (Failure.List c.in_err-drawn.field-0.0)
     (keeps_same (g.W.Write.contents c.args.output.now)))
 
 pub returns-in_err-send_all-clause-refused : goal.returns-in_err-send_all-clause-refused

@@ -9,6 +9,12 @@ returns-in-Watch-clause-served g c = rw c.in-Watch.is c.watch.ensures.served
 pub returns-in-Watch-clause-refused : goal.returns-in-Watch-clause-refused
 returns-in-Watch-clause-refused g c = rw c.in-Watch.is c.watch.ensures.refused
 
+pub returns-in-Chart-clause-served : goal.returns-in-Chart-clause-served
+returns-in-Chart-clause-served g c = rw c.in-Chart.is c.chart.ensures.served
+
+pub returns-in-Chart-clause-refused : goal.returns-in-Chart-clause-refused
+returns-in-Chart-clause-refused g c = rw c.in-Chart.is c.chart.ensures.refused
+
 pub returns-in-Compile-clause-served : goal.returns-in-Compile-clause-served
 returns-in-Compile-clause-served g c = rw c.in-Compile.is c.compile.ensures.served
 
