@@ -23,7 +23,7 @@ pub struct Selection<'a> {
 }
 
 /// The selection that words without a fault ask for. None where a bound is no number, or where the last index is less than the first.
-pub fn read_selection<'a>(found: &'a ArgMatches<'a>) -> Option<Selection<'a>>
+pub fn read_selection<'m>(found: &'m ArgMatches<'_>) -> Option<Selection<'m>>
     ensures some { IfSome result (λ s. AreSelected (rows_of (found_of found.now)) s) }
     ensures none { IfNone result ((s : Selection) → AreSelected (rows_of (found_of found.now)) s → ⊥) }
 {

@@ -1,12 +1,10 @@
--- What is told of an action that cannot be read, or that no component has: the word that is not known, and the components that have an entry of its name, as
--- their automata declare it.
+-- What is told of an action that no component has: the components that have an entry of its name, as their automata declare it.
 use Rattle.std.specs.Prelude.{◌≡◌, ◌++◌, ℕ, Bool, true, false, List, [], ◌∷◌, Option, Some, None, codes, slice_get}
 use Rattle.std.specs.Fmt.{decimal}
 use Rattle.std.specs.List.{flat_map}
 use Rattle.std.specs.Option.{option_map_or}
 use Rattle.std.specs.String.{string_bytes}
 use Rattle.ioa_value.specs.Actions.{Act, Name}
-use Rattle.ioa_value.specs.Table.{Table, constant_named, type_named}
 use Rattle.ioa_tree.specs.Runs.{Ending, done, not_an_action_at, not_enabled_at, fault_at}
 use Rattle.ioa_tree.specs.declared.tree.Constant.{Constant}
 use Rattle.ioa_tree.specs.declared.tree.Entry.{Entry}
@@ -17,12 +15,6 @@ use Rattle.ioa_system.specs.Outcomes.{ending_of}
 use Rattle.ioa_account.specs.declared.ends.Account.{Account}
 use Rattle.ioa_account.specs.declared.remarks.Told.{Told}
 use Rattle.ioa_account.specs.Remarks.{IsAccountOf}
-
--- ---- a word of a value
-
--- no type and no name of an enumeration
-abbrev pub IsUnknown : Table → Name → Type 0
-IsUnknown types word = (type_named types word ≡ None) × (constant_named types word ≡ None)
 
 -- ---- an entry as it is declared
 

@@ -1,6 +1,7 @@
 -- Which files a request names beside its source, and where what a failure tells of stands.
-use Rattle.std.specs.Prelude.{ℕ, ◌+◌, ◌-◌, ◌^◌, min, List, [], ◌∷◌, Option, Some, None, codes}
+use Rattle.std.specs.Prelude.{ℕ, Bool, not, ◌+◌, ◌-◌, ◌^◌, min, List, [], ◌∷◌, Option, Some, None, codes}
 use Rattle.std.specs.Option.{option_and_then, option_copied, option_map}
+use Rattle.std.specs.Str.{bytes_eq}
 use Rattle.ioa_value.specs.Actions.{Name}
 use Rattle.ioa_lex.specs.declared.refusal.Refusal.{Refusal}
 use Rattle.ioa_log.specs.declared.failure.LogErr.{LogErr}
@@ -94,6 +95,10 @@ input_name (Request.Compile file out composition) = codes "log"
 input_name (Request.Dump file) = codes "log"
 input_name (Request.Explain topic) = codes "log"
 input_name Request.Library = codes "log"
+
+-- a log does, unless it is a list
+abbrev pub stands_log : Request → Bool
+stands_log request = not (bytes_eq (input_name request) (codes "list"))
 
 -- ---- places
 

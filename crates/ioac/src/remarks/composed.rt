@@ -1,7 +1,7 @@
 //! What there is to say of a refusal that no line of the file itself breaks: of its composition, at a component or a hidden name; that there is none; or of what it
 //! does unseen.
 
-ghost use Rattle.std.specs.Prelude.{◌≡◌, ◌⊎◌, ◌++◌, ℕ, List, Option, Some, IfOk, IfSome, OnOk, true};
+ghost use Rattle.std.specs.Prelude.{◌≡◌, ◌++◌, Option, Some, IfOk, IfSome, OnOk, true};
 ghost use Rattle.std.specs.List.{Contains};
 ghost use Rattle.std.specs.Option.{option_copied};
 ghost use Rattle.std.specs.String.{string_bytes};
@@ -11,8 +11,9 @@ ghost use Rattle.ioa_serving.specs.FailureCodes.{refusal_code};
 ghost use Rattle.ioa_serving.specs.Headline.{begins_object};
 ghost use Rattle.ioac.specs.Composed as spec;
 ghost use Rattle.ioac.specs.Places as places;
-ghost use Rattle.ioac.specs.Refused.{MayTellFile, MayTellLine, TellsComposition, TellsCompositionIn, TellsMissing, TellsMissingIn};
+ghost use Rattle.ioac.specs.Refused.{TellsComposition, TellsCompositionIn, TellsMissing, TellsMissingIn, TellsUnseen, TellsUnseenIn};
 ghost use Rattle.ioac.specs.Remarks.{IsChecking, jump_text};
+ghost use Rattle.ioac.specs.UnseenLines as lines;
 
 use crate::remarks::ended::loaded;
 use crate::remarks::heads::{put_flat, put_jump};
@@ -20,9 +21,11 @@ use crate::remarks::heard::program_in;
 use crate::remarks::nameless;
 use crate::remarks::places::{file_of, source_of};
 use crate::remarks::sources::{Placed, checked_in, first_refused, picked, placed_in, refusal_of};
-use crate::remarks::unseen::{Unseen, line_of_unseen, unseen_in, unseen_words};
+use crate::remarks::unseen::{Unseen, unseen_in, unseen_words};
+use crate::remarks::unseen_lines::line_of_unseen;
 use ioa_causes::composing::{line_of_refusal, missing_words, refused_words};
 use ioa_causes::words::general;
+use ioa_compile::Program;
 use ioa_request::{Code, Request};
 use ioa_serving::{Failure, Store, is_object};
 use ioa_syntax::Refusal;
@@ -394,30 +397,76 @@ pub fn put_unseen<F: Store>(
     code: Code,
     store: &F,
 ) -> Result<(), OutOfMemory>
-    ensures { OnOk result (MayTellLine (F.holds store.now) (F.lacks store.now) (places.file_of asked.now) code (string_bytes text.old) (string_bytes text.new)
-        ⊎ MayTellFile (places.file_of asked.now) code (string_bytes text.old) (string_bytes text.new)) }
+    ensures { OnOk result (TellsUnseen (F.holds store.now) (F.lacks store.now) (places.file_of asked.now) asked.now code (string_bytes text.old) (string_bytes text.new)) }
 {
     let Some(name) = file_of(asked) else {
         return Ok(());
     };
     let bytes = loaded(alloc, name, store)?;
-    match hiding_of(alloc, asked, bytes.as_slice())? {
-        Some(hiding) => {
-            let words = hiding.words.as_str();
-            match hiding.line {
-                Some(line) => put_jump(alloc, text, name, line, code, words, bytes.as_slice()),
-                None => put_flat(text, name, code, words),
-            }
-        }
+    put_unseen_in(alloc, text, asked, code, name, bytes.as_slice())
+}
+
+/// Puts the same of what a file holds.
+fn put_unseen_in(
+    alloc: Global,
+    text: &mut String,
+    asked: &Request<'_>,
+    code: Code,
+    name: &str,
+    bytes: &[u8],
+) -> Result<(), OutOfMemory>
+    ensures { OnOk result (TellsUnseenIn asked.now code name.now bytes.now (string_bytes text.old) (string_bytes text.new)) }
+{
+    match hiding_of(alloc, asked, bytes)? {
+        Some(hiding) => put_hiding(alloc, text, name, code, &hiding, bytes),
         None => Ok(()),
     }
 }
 
-/// What a composition does unseen, and where a source declares it.
+/// What a composition does unseen, in words, and where a source declares it.
 #[derive(Drop)]
 struct Hiding {
     line: Option<usize>,
     words: String,
+}
+
+fn put_hiding(
+    alloc: Global,
+    text: &mut String,
+    name: &str,
+    code: Code,
+    hiding: &Hiding,
+    bytes: &[u8],
+) -> Result<(), OutOfMemory>
+    ensures { OnOk result (string_bytes text.new ≡ string_bytes text.old ++ lines.line_text name.now hiding.now.line code (string_bytes hiding.now.words) bytes.now) }
+{
+    put_words(
+        alloc,
+        text,
+        name,
+        hiding.line,
+        code,
+        hiding.words.as_str(),
+        bytes,
+    )
+}
+
+/// Puts words of this line, or of the file alone.
+fn put_words(
+    alloc: Global,
+    text: &mut String,
+    name: &str,
+    line: Option<usize>,
+    code: Code,
+    words: &str,
+    bytes: &[u8],
+) -> Result<(), OutOfMemory>
+    ensures { OnOk result (string_bytes text.new ≡ string_bytes text.old ++ lines.line_text name.now line code words.now bytes.now) }
+{
+    match line {
+        Some(line) => put_jump(alloc, text, name, line, code, words, bytes),
+        None => put_flat(text, name, code, words),
+    }
 }
 
 /// What the composition of a file does unseen. None, where the file is refused, or is another one by now.
@@ -425,35 +474,74 @@ fn hiding_of(
     alloc: Global,
     asked: &Request<'_>,
     bytes: &[u8],
-) -> Result<Option<Hiding>, OutOfMemory> {
+) -> Result<Option<Hiding>, OutOfMemory>
+    ensures { IfOk result (λ found. IfSome found (λ h. lines.IsUnseenAt asked.now bytes.now h.line (string_bytes h.words))) }
+{
     let composition = composition_at_fault(alloc, asked, bytes)?;
-    let Some(program) = program_in(alloc, bytes, composition)? else {
-        return Ok(None);
-    };
-    let Some(found) = unseen_in(&program) else {
-        return Ok(None);
-    };
-    let line = line_in(alloc, bytes, composition, found)?;
-    let words = unseen_words(alloc, found)?;
-    Ok(Some(Hiding { line, words }))
+    match program_in(alloc, bytes, composition)? {
+        Some(program) => hiding_in(alloc, &program, bytes, composition),
+        None => Ok(None),
+    }
 }
 
-/// The line on which a source declares what is unseen. None in an object.
-fn line_in(
+/// What the program of a file does unseen.
+fn hiding_in(
+    alloc: Global,
+    program: &Program,
+    bytes: &[u8],
+    composition: Option<&str>,
+) -> Result<Option<Hiding>, OutOfMemory>
+    ensures { IfOk result (λ found. IfSome found (λ h. lines.TellsUnseenOf program.now bytes.now (option_copied composition.entry) h.line (string_bytes h.words))) }
+{
+    match unseen_in(program) {
+        Some(unseen) => hiding_at(alloc, bytes, composition, unseen),
+        None => Ok(None),
+    }
+}
+
+/// What is unseen, with the line of a source that declares it. None, where no line does.
+fn hiding_at(
     alloc: Global,
     bytes: &[u8],
     composition: Option<&str>,
-    found: Unseen<'_>,
-) -> Result<Option<usize>, OutOfMemory> {
+    unseen: Unseen<'_>,
+) -> Result<Option<Hiding>, OutOfMemory>
+    ensures { IfOk result (λ found. IfSome found (λ h. lines.TellsUnseenOn bytes.now (option_copied composition.entry) unseen.entry h.line (string_bytes h.words))) }
+{
+    let words = unseen_words(alloc, unseen)?;
     if is_object(bytes) {
-        return Ok(None);
+        return Ok(Some(Hiding { line: None, words }));
     }
-    let Some(checked) = checked_in(alloc, bytes)? else {
-        return Ok(None);
-    };
-    let declarations = checked.declarations();
-    match picked(declarations, composition) {
-        Some(assembly) => Ok(line_of_unseen(declarations, assembly, found)),
+    match line_in(alloc, bytes, composition, unseen)? {
+        Some(line) => Ok(Some(Hiding {
+            line: Some(line),
+            words,
+        })),
         None => Ok(None),
     }
+}
+
+/// The line on which a source declares what is unseen.
+fn line_in(
+    alloc: Global,
+    source: &[u8],
+    composition: Option<&str>,
+    unseen: Unseen<'_>,
+) -> Result<Option<usize>, OutOfMemory>
+    ensures { IfOk result (λ found. IfSome found (λ line. lines.IsLineIn source.now (option_copied composition.entry) unseen.entry line)) }
+{
+    match placed_in(alloc, source)? {
+        Some(placed) => Ok(line_among(&placed, composition, unseen)),
+        None => Ok(None),
+    }
+}
+
+/// The line of the token that names what is unseen.
+fn line_among(placed: &Placed, composition: Option<&str>, unseen: Unseen<'_>) -> Option<usize>
+    ensures { IfSome result (λ line. lines.IsPickedOn placed.now.tokens.items placed.now.checked (option_copied composition.entry) unseen.entry line) }
+{
+    let declarations = placed.checked.declarations();
+    let assembly = picked(declarations, composition)?;
+    let line = line_of_unseen(placed.tokens.as_slice(), declarations, assembly, unseen)?;
+    Some(line as usize)
 }

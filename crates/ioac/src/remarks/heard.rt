@@ -1,18 +1,20 @@
 //! What is wrong with a line of a list, of a log or of a run's script: what is not known in it, or whose action it is.
 
-ghost use Rattle.std.specs.Prelude.{◌≡◌, ◌+◌, false, IfOk, IfSome, map};
+ghost use Rattle.std.specs.Prelude.{◌≡◌, ◌++◌, ◌+◌, IfOk, IfSome, map};
+ghost use Rattle.std.specs.Option.{option_copied, option_map};
 ghost use Rattle.std.specs.String.{string_bytes};
 ghost use Rattle.ioa_value.specs.Actions.{act_of};
-ghost use Rattle.ioa_compile.specs.Shown.{member_code};
+ghost use Rattle.ioa_compile.specs.Shown.{entry_code, member_code};
 ghost use Rattle.ioa_compile.specs.Tables.{tabled};
 ghost use Rattle.ioa_system.specs.Logs.{log_entry, worker};
-ghost use Rattle.ioac.specs.Hints.{IsUnknown};
+ghost use Rattle.ioac.specs.Heard as spec;
 ghost use Rattle.ioac.specs.Owners as owners;
 ghost use Rattle.ioac.specs.Refused.{IsBehindEnd};
 
+use crate::remarks::unknown::unknown_word;
 use ioa_account::line_at;
 use ioa_causes::composing::kind_words;
-use ioa_compile::{Member, Program};
+use ioa_compile::{Entry, Member, Program};
 use ioa_log::{LogErr, begun_log};
 use ioa_object::ObjErr;
 use ioa_request::Request;
@@ -22,13 +24,6 @@ use ioa_system::{LogEntry, Participation, owner};
 use ioa_tree::Kind;
 use ioa_value::{Action, OutOfMemory, Types, print_action, read_action};
 use std::alloc::Global;
-use std::fmt::Write;
-
-/// What an action and an entry of a log look like.
-const ACTION: &str = "an action is written as `tick(5)`";
-
-const ENTRY: &str =
-    r#"a log has one JSON object a line, as `{"act":"tick(5)","who":0}`, and last `{"end":"done after 1"}`"#;
 
 /// Which bytes a line stands in, and what they should be.
 #[derive(Clone, Copy)]
@@ -40,29 +35,73 @@ pub struct Heard<'a> {
     pub is_log: bool,
 }
 
-/// Puts what is wrong with a line, and answers whether that is known.
-pub fn put(
+/// What is wrong with a line, in words. None, where no more is known than the failure's code says.
+pub fn words(
     alloc: Global,
-    text: &mut String,
     asked: &Request<'_>,
     failure: &Failure,
     program: &Program,
     heard: Heard<'_>,
-) -> Result<bool, OutOfMemory> {
-    let Some(line) = line_at(heard.bytes, heard.line) else {
-        return Ok(false);
-    };
+) -> Result<Option<String>, OutOfMemory>
+    ensures { IfOk result (λ found. spec.TellsHeard failure.now asked.now program.now heard.entry.is_log heard.entry.bytes.now heard.entry.line (option_map string_bytes found)) }
+{
+    match line_at(heard.bytes, heard.line) {
+        Some(line) => failure_words(alloc, asked, failure, program, heard, line),
+        None => Ok(None),
+    }
+}
+
+/// The same of the line that it is.
+fn failure_words(
+    alloc: Global,
+    asked: &Request<'_>,
+    failure: &Failure,
+    program: &Program,
+    heard: Heard<'_>,
+    line: &[u8],
+) -> Result<Option<String>, OutOfMemory>
+    ensures { IfOk result (λ found. spec.TellsFailure failure.now asked.now program.now heard.entry.is_log heard.entry.bytes.now heard.entry.line line.now (option_map string_bytes found)) }
+{
     match failure {
-        Failure::List(error) | Failure::RunLog(error) => match error {
-            LogErr::NotJson(_) => put_no_json(alloc, text, program.types(), line),
-            LogErr::BadEntry(_) if heard.is_log => put_no_entry(text, program.types(), line),
-            LogErr::BadEntry(_) => put_no_action(text, asked, program.types(), line),
-            LogErr::WrongOwner(_) => put_owner(alloc, text, program, heard),
-            LogErr::AfterEnd => put_behind_end(text, heard.line),
-            LogErr::Diverges(_) | LogErr::NoEnd | LogErr::Io | LogErr::OutOfMemory => Ok(false),
-        },
-        Failure::BadInput(_) => put_no_input(alloc, text, program, line),
-        _ => Ok(false),
+        Failure::List(error) => error_words(alloc, asked, error, program, heard, line),
+        Failure::RunLog(error) => error_words(alloc, asked, error, program, heard, line),
+        Failure::BadInput(_) => no_input_words(alloc, program, line),
+        Failure::Refused(_) => Ok(None),
+        Failure::Object(_) => Ok(None),
+        Failure::SourceWanted => Ok(None),
+        Failure::SpecHasInternal => Ok(None),
+        Failure::BadWords(_) => Ok(None),
+        Failure::TooManyTurns => Ok(None),
+        Failure::Threads => Ok(None),
+        Failure::BadLog(_) => Ok(None),
+        Failure::EndedByFault => Ok(None),
+        Failure::Io => Ok(None),
+        Failure::OutOfMemory => Ok(None),
+    }
+}
+
+/// What is wrong with a line of a list or a log.
+fn error_words(
+    alloc: Global,
+    asked: &Request<'_>,
+    error: &LogErr,
+    program: &Program,
+    heard: Heard<'_>,
+    line: &[u8],
+) -> Result<Option<String>, OutOfMemory>
+    ensures { IfOk result (λ found. spec.TellsLogErr error.now asked.now program.now heard.entry.is_log heard.entry.bytes.now heard.entry.line line.now (option_map string_bytes found)) }
+{
+    match error {
+        LogErr::NotJson(_) => Ok(Some(no_json_words(alloc, program.types(), line)?)),
+        LogErr::BadEntry(_) => {
+            Ok(Some(bad_line_words(alloc, asked, program.types(), heard.is_log, line)?))
+        }
+        LogErr::WrongOwner(_) => owner_words(alloc, program, heard.bytes, heard.line),
+        LogErr::AfterEnd => Ok(Some(behind_end_words(alloc, heard.line)?)),
+        LogErr::Diverges(_) => Ok(None),
+        LogErr::NoEnd => Ok(None),
+        LogErr::Io => Ok(None),
+        LogErr::OutOfMemory => Ok(None),
     }
 }
 
@@ -71,7 +110,9 @@ pub fn program_in(
     alloc: Global,
     bytes: &[u8],
     composition: Option<&str>,
-) -> Result<Option<Program>, OutOfMemory> {
+) -> Result<Option<Program>, OutOfMemory>
+    ensures { IfOk result (spec.IsGivenProgram bytes.now (option_copied composition.entry)) }
+{
     match program_of(alloc, bytes, composition) {
         Ok(program) => Ok(Some(program)),
         Err(
@@ -83,125 +124,136 @@ pub fn program_in(
     }
 }
 
-fn put_no_json(
-    alloc: Global,
-    text: &mut String,
-    types: &Types,
-    line: &[u8],
-) -> Result<bool, OutOfMemory> {
-    if read_action(alloc, types, line)?.is_some() {
-        text.push_str(
-            "this is an action, as a list has, and a log is wanted here: `ioac log` makes one of a list",
-        )?;
-    } else {
-        write!(text, "this line is no JSON: {ENTRY}")?;
+/// What is wrong with a line that is no JSON.
+fn no_json_words(alloc: Global, types: &Types, line: &[u8]) -> Result<String, OutOfMemory>
+    ensures { IfOk result (λ words. spec.TellsNoJson types.now line.now (string_bytes words)) }
+{
+    match read_action(alloc, types, line)? {
+        Some(_) => Ok(String::from_str(alloc, list_line())?),
+        None => Ok(behind(alloc, "this line is no JSON: ", entry_form())?),
     }
-    Ok(true)
 }
 
-/// Puts what is wrong with a line of a list.
-fn put_no_action(
-    text: &mut String,
+/// That a line is one of a list.
+fn list_line() -> &'static str
+    ensures { result.now ≡ spec.list_line_words }
+{
+    "this is an action, as a list has, and a log is wanted here: `ioac log` makes one of a list"
+}
+
+/// How an action is written.
+fn action_form() -> &'static str
+    ensures { result.now ≡ spec.action_words }
+{
+    "an action is written as `tick(5)`"
+}
+
+/// How an entry of a log is written.
+fn entry_form() -> &'static str
+    ensures { result.now ≡ spec.entry_words }
+{
+    r#"a log has one JSON object a line, as `{"act":"tick(5)","who":0}`, and last `{"end":"done after 1"}`"#
+}
+
+/// One text behind another.
+fn behind(alloc: Global, text: &str, more: &str) -> Result<String, OutOfMemory>
+    ensures { IfOk result (λ both. string_bytes both ≡ text.now ++ more.now) }
+{
+    Ok(format!(in alloc; "{text}{more}")?)
+}
+
+/// What is wrong with a line of a log or a list that is no entry, or no action.
+fn bad_line_words(
+    alloc: Global,
+    asked: &Request<'_>,
+    types: &Types,
+    is_log: bool,
+    line: &[u8],
+) -> Result<String, OutOfMemory>
+    ensures { IfOk result (λ words. spec.TellsBadLine is_log asked.now types.now line.now (string_bytes words)) }
+{
+    if is_log {
+        return unread_words(alloc, types, entry_form(), line);
+    }
+    no_action_words(alloc, asked, types, line)
+}
+
+/// What is wrong with a line of a list.
+fn no_action_words(
+    alloc: Global,
     asked: &Request<'_>,
     types: &Types,
     line: &[u8],
-) -> Result<bool, OutOfMemory> {
-    if begins_object(line) {
-        text.push_str("this is a line of a log, and a list is wanted here")?;
-        if may_read_log(asked) {
-            text.push_str(": with `--log` a log is read")?;
-        }
-    } else if let Some(word) = unknown_word(types, line) {
-        put_unknown(text, word)?;
-    } else {
-        write!(text, "this line cannot be read: {ACTION}")?;
+) -> Result<String, OutOfMemory>
+    ensures { IfOk result (λ words. spec.TellsNoAction asked.now types.now line.now (string_bytes words)) }
+{
+    if begins_entry(line) {
+        return log_line_words(alloc, asked);
     }
-    Ok(true)
-}
-
-/// Puts what is wrong with a line of a log.
-fn put_no_entry(text: &mut String, types: &Types, line: &[u8]) -> Result<bool, OutOfMemory> {
-    match unknown_word(types, line) {
-        Some(word) => put_unknown(text, word)?,
-        None => write!(text, "this line cannot be read: {ENTRY}")?,
-    }
-    Ok(true)
-}
-
-fn put_unknown(text: &mut String, word: &str) -> Result<(), OutOfMemory> {
-    write!(
-        text,
-        "the source has neither a type nor a name of an enumeration `{word}`"
-    )?;
-    Ok(())
+    unread_words(alloc, types, action_form(), line)
 }
 
 /// Whether a line begins as one of a log does.
-fn begins_object(line: &[u8]) -> bool {
-    matches!(line.first(), Some(b'{'))
-}
-
-/// Whether there is a request like this one that reads a log.
-fn may_read_log(asked: &Request<'_>) -> bool {
-    matches!(asked, Request::Replay { .. } | Request::ReplayStates { .. })
-}
-
-/// The first word among the values of an action that is neither a type nor a name of an enumeration.
-fn unknown_word<'a>(types: &Types, line: &'a [u8]) -> Option<&'a str>
-    ensures { IfSome result (λ word. IsUnknown types.now word.now) }
+fn begins_entry(line: &[u8]) -> bool
+    ensures { result ≡ spec.begins_entry line.now }
 {
-    let Ok(whole) = str::from_utf8(line) else {
-        return None;
-    };
-    let (_, inner) = whole.split_once("(")?;
-    let values = match inner.split_once("\"") {
-        Some((values, _)) => values,
-        None => inner,
-    };
-    for word in values.split(is_between) {
-        if begins_word(word) && !is_known(types, word) {
-            return Some(word);
-        }
-    }
-    None
-}
-
-/// Whether a letter stands in no name and in no number.
-fn is_between(letter: char) -> bool {
-    !(letter.is_ascii_alphanumeric() || letter == '_')
-}
-
-fn begins_word(word: &str) -> bool {
-    match word.as_bytes().first() {
-        Some(byte) => byte.is_ascii_alphabetic(),
-        None => false,
+    match line {
+        [first, ..] => *first == b'{',
+        [] => false,
     }
 }
 
-/// Whether a word stands in a value: a truth value, a type, or a name of an enumeration.
-fn is_known(types: &Types, word: &str) -> bool
-    ensures { result ≡ false → IsUnknown types.now word.now }
+/// That a line is one of a log.
+fn log_line_words(alloc: Global, asked: &Request<'_>) -> Result<String, OutOfMemory>
+    ensures { IfOk result (λ words. string_bytes words ≡ spec.log_line_words asked.now) }
 {
-    match (types.named(word), types.constant(word)) {
-        (None, None) => word == "true" || word == "false",
-        _ => true,
+    let text = "this is a line of a log, and a list is wanted here";
+    behind(alloc, text, log_option(asked))
+}
+
+/// That there is a request like this one that reads a log. Nothing, where there is none.
+fn log_option(asked: &Request<'_>) -> &'static str
+    ensures { result.now ≡ spec.log_option asked.now }
+{
+    match asked {
+        Request::Replay { .. } | Request::ReplayStates { .. } => ": with `--log` a log is read",
+        Request::ReplayLog { .. }
+        | Request::ReplayLogStates { .. }
+        | Request::ReplayInvariants { .. }
+        | Request::Log { .. }
+        | Request::Monitor { .. }
+        | Request::Watch { .. }
+        | Request::Chart { .. }
+        | Request::Graph { .. }
+        | Request::Run(_)
+        | Request::Seeds(_)
+        | Request::Check { .. }
+        | Request::Compile { .. }
+        | Request::Dump { .. }
+        | Request::Explain { .. }
+        | Request::Library => "",
     }
 }
 
-/// Puts whose action the entry on a log's line is, and whose the log says.
-fn put_owner(
+/// Which word of a line is not known, or else how such a line is written.
+fn unread_words(
     alloc: Global,
-    text: &mut String,
-    program: &Program,
-    heard: Heard<'_>,
-) -> Result<bool, OutOfMemory> {
-    match owner_words(alloc, program, heard.bytes, heard.line)? {
-        Some(words) => {
-            text.push_str(words.as_str())?;
-            Ok(true)
-        }
-        None => Ok(false),
+    types: &Types,
+    wanted: &str,
+    line: &[u8],
+) -> Result<String, OutOfMemory>
+    ensures { IfOk result (λ words. spec.TellsUnread types.now wanted.now line.now (string_bytes words)) }
+{
+    match unknown_word(types, line) {
+        Some(word) => unknown_words(alloc, word),
+        None => behind(alloc, "this line cannot be read: ", wanted),
     }
+}
+
+fn unknown_words(alloc: Global, word: &str) -> Result<String, OutOfMemory>
+    ensures { IfOk result (λ words. string_bytes words ≡ spec.unknown_words word.now) }
+{
+    Ok(format!(in alloc; "the source has neither a type nor a name of an enumeration `{word}`")?)
 }
 
 /// Whose action the last entry up to a line is, and whose the log says. None, where a line before is neither an entry nor the end.
@@ -274,14 +326,12 @@ fn owned_words(
     )?)
 }
 
-/// Puts that a line stands behind a log's end.
-fn put_behind_end(text: &mut String, line: usize) -> Result<bool, OutOfMemory> {
+/// That a line stands behind a log's end.
+fn behind_end_words(alloc: Global, line: usize) -> Result<String, OutOfMemory>
+    ensures { IfOk result (λ words. string_bytes words ≡ spec.behind_end_words line) }
+{
     let end = line.saturating_sub(1);
-    write!(
-        text,
-        "the log ends on line {end}, and nothing stands behind its end"
-    )?;
-    Ok(true)
+    Ok(format!(in alloc; "the log ends on line {end}, and nothing stands behind its end")?)
 }
 
 /// The first line behind a log's end, by its number from 1. None, where a line before is neither an entry nor the end.
@@ -310,38 +360,88 @@ fn line_behind(count: usize) -> Option<usize>
     count.checked_add(2)
 }
 
-/// Puts what the action on a line of a script is, which is no input of the composition.
-fn put_no_input(
+/// What the action on a line of a script is, which is no input of the composition. None, where the line is no action.
+fn no_input_words(
     alloc: Global,
-    text: &mut String,
     program: &Program,
     line: &[u8],
-) -> Result<bool, OutOfMemory> {
-    let Some(action) = read_action(alloc, program.types(), line)? else {
-        return Ok(false);
-    };
-    let told = print_action(alloc, program.types(), &action)?;
-    let told = told.as_str();
-    match owner_of(program, &action) {
-        Some((name, kind)) => {
-            let kind = kind_words(kind);
-            write!(
-                text,
-                "{told} is {kind} of {name}, and the environment performs inputs alone"
-            )?;
-        }
-        None => write!(text, "no component has {told} as an input")?,
+) -> Result<Option<String>, OutOfMemory>
+    ensures { IfOk result (λ found. spec.TellsNoInput program.now line.now (option_map string_bytes found)) }
+{
+    match read_action(alloc, program.types(), line)? {
+        Some(action) => Ok(Some(input_words(alloc, program, &action)?)),
+        None => Ok(None),
     }
-    Ok(true)
+}
+
+/// What an action is that is no input.
+fn input_words(alloc: Global, program: &Program, action: &Action) -> Result<String, OutOfMemory>
+    ensures { IfOk result (λ words. string_bytes words ≡ spec.input_words program.now (act_of action.now)) }
+{
+    let told = print_action(alloc, program.types(), action)?;
+    match performer_of(program, action) {
+        Some((name, kind)) => performed_words(alloc, told.as_str(), name, kind),
+        None => nowhere_words(alloc, told.as_str()),
+    }
+}
+
+fn performed_words(
+    alloc: Global,
+    action: &str,
+    name: &str,
+    kind: Kind,
+) -> Result<String, OutOfMemory>
+    ensures { IfOk result (λ words. string_bytes words ≡ spec.performed_words action.now (name.now, kind)) }
+{
+    let kind = kind_words(kind);
+    Ok(format!(in alloc;
+        "{action} is {kind} of {name}, and the environment performs inputs alone"
+    )?)
+}
+
+fn nowhere_words(alloc: Global, action: &str) -> Result<String, OutOfMemory>
+    ensures { IfOk result (λ words. string_bytes words ≡ spec.no_input_words action.now) }
+{
+    Ok(format!(in alloc; "no component has {action} as an input")?)
 }
 
 /// The component that performs an action, and what the action is there.
-fn owner_of<'a>(program: &'a Program, action: &Action) -> Option<(&'a str, Kind)> {
-    let number = owner(program, action)?;
-    let member = program.members().get(number)?;
-    for entry in &member.entries {
-        if entry.name.as_str() == action.name.as_str() {
-            return Some((member.name.as_str(), entry.kind));
+fn performer_of<'a>(program: &'a Program, action: &Action) -> Option<(&'a str, Kind)>
+    ensures { option_map (λ p. (p.0.now, p.1)) result ≡ spec.performer_of program.now (act_of action.now) }
+{
+    match member_of(program, action) {
+        Some(member) => kind_in(member, action.name.as_str()),
+        None => None,
+    }
+}
+
+/// The component that performs an action.
+fn member_of<'a>(program: &'a Program, action: &Action) -> Option<&'a Member>
+    ensures { option_map (λ m. member_code m.now) result ≡ spec.owner_of program.now (act_of action.now) }
+{
+    match owner(program, action) {
+        Some(number) => program.members().get(number),
+        None => None,
+    }
+}
+
+/// What an action of this name is in a component, with the component's name.
+fn kind_in<'a>(member: &'a Member, name: &str) -> Option<(&'a str, Kind)>
+    ensures { option_map (λ p. (p.0.now, p.1)) result ≡ spec.kind_in name.now (member_code member.now) }
+{
+    match named_kind(&member.entries, name) {
+        Some(kind) => Some((member.name.as_str(), kind)),
+        None => None,
+    }
+}
+
+/// The kind of the first entry of this name.
+fn named_kind(entries: &[Entry], name: &str) -> Option<Kind>
+    ensures { result ≡ spec.named_kind name.now (map entry_code entries.now) }
+{
+    for entry in entries {
+        if entry.name.as_str() == name {
+            return Some(entry.kind);
         }
     }
     None

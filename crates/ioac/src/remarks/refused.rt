@@ -1,14 +1,16 @@
 //! What there is to say of a refusal: where what it tells of stands, and what its code means.
 
-ghost use Rattle.std.specs.Prelude.{◌≡◌, ◌++◌, ◌∷◌, ℕ, List, IfOk, OnOk, Some};
+ghost use Rattle.std.specs.Prelude.{◌≡◌, ◌++◌, ◌∷◌, ℕ, List, IfOk, OnOk, Some, false, true};
+ghost use Rattle.std.specs.Option.{option_map};
 ghost use Rattle.std.specs.String.{string_bytes};
 ghost use Rattle.ioa_log.specs.declared.failure.LogErr as errors;
 ghost use Rattle.ioa_request.specs.declared.explanation.Explanation.{Explanation};
 ghost use Rattle.ioa_request.specs.Explained.{explanation_text};
 ghost use Rattle.ioa_serving.specs.declared.failure.Failure as failures;
 ghost use Rattle.ioa_serving.specs.FailureCodes.{failure_code};
+ghost use Rattle.ioac.specs.Heard.{AreHeardWords, FindsHeard, IsAskedProgram};
 ghost use Rattle.ioac.specs.Places as places;
-ghost use Rattle.ioac.specs.Refused.{IsBehindEnd, IsToldAt, TellsAction, TellsActionOn, TellsAt, TellsBehindEnd, TellsBehindFileEnd, TellsFileLine, TellsInput, TellsLine, TellsSourceLine};
+ghost use Rattle.ioac.specs.Refused.{IsBehindEnd, IsToldAt, TellsAction, TellsActionOn, TellsAt, TellsBehindEnd, TellsBehindFileEnd, TellsFileLine, TellsGeneral, TellsInput, TellsIt, TellsLine, TellsSourceLine};
 ghost use Rattle.ioac.specs.Remarks as spec;
 ghost use Rattle.ioac.specs.Remarks.{IsDifference, IsLoaded};
 
@@ -22,6 +24,7 @@ use crate::remarks::places::{
 use crate::remarks::{composed, ended, heard, warned, words};
 use ioa_account::line_of_action;
 use ioa_causes::wording;
+use ioa_causes::words::general;
 use ioa_compile::Program;
 use ioa_log::LogErr;
 use ioa_request::explanations::explanation;
@@ -124,7 +127,7 @@ fn put_place<F: Store>(
         Place::Composition => composed::put_refused(alloc, text, asked, failure, store),
         Place::Missing => composed::put_missing(alloc, text, asked, failure.code(), store),
         Place::Unseen => composed::put_unseen(alloc, text, asked, failure.code(), store),
-        Place::Words(line) => put_words_line(alloc, text, asked, failure.code(), line, store),
+        Place::Words(line) => put_words_line(alloc, text, asked, failure, line, store),
         Place::Action(index) => put_script_action(alloc, text, asked, failure, index, store),
         Place::Log(line) => put_log_line(alloc, text, asked, failure, line, store),
         Place::BehindLogEnd => put_behind_log(alloc, text, asked, failure, store),
@@ -176,16 +179,17 @@ fn put_words_line<F: Store>(
     alloc: Global,
     text: &mut String,
     asked: &Request<'_>,
-    code: Code,
+    failure: &Failure,
     line: usize,
     store: &F,
 ) -> Result<(), OutOfMemory>
-    ensures { OnOk result (TellsFileLine (F.holds store.now) (F.lacks store.now) (places.words_of asked.now) line code (string_bytes text.old) (string_bytes text.new)) }
+    ensures { OnOk result (TellsFileLine (TellsGeneral failure.now) (F.holds store.now) (F.lacks store.now) (places.words_of asked.now) line (failure_code failure.now) (string_bytes text.old) (string_bytes text.new)) }
 {
     let Some(name) = words_of(asked) else {
         return Ok(());
     };
     let bytes = loaded_whole(alloc, name, store)?;
+    let code = failure.code();
     put_jump(
         alloc,
         text,
@@ -206,7 +210,7 @@ fn put_script_action<F: Store>(
     index: usize,
     store: &F,
 ) -> Result<(), OutOfMemory>
-    ensures { OnOk result (TellsAction (F.holds store.now) (F.lacks store.now) (places.inputs_of asked.now) index (failure_code failure.now) (string_bytes text.old) (string_bytes text.new)) }
+    ensures { OnOk result (TellsAction (TellsIt (F.holds store.now) (F.lacks store.now) asked.now failure.now false) (F.holds store.now) (F.lacks store.now) (places.inputs_of asked.now) index (failure_code failure.now) (string_bytes text.old) (string_bytes text.new)) }
 {
     let Some(name) = inputs_of(asked) else {
         return Ok(());
@@ -230,7 +234,7 @@ fn put_log_line<F: Store>(
     line: usize,
     store: &F,
 ) -> Result<(), OutOfMemory>
-    ensures { OnOk result (TellsFileLine (F.holds store.now) (F.lacks store.now) (places.resume_of asked.now) line (failure_code failure.now) (string_bytes text.old) (string_bytes text.new)) }
+    ensures { OnOk result (TellsFileLine (TellsIt (F.holds store.now) (F.lacks store.now) asked.now failure.now true) (F.holds store.now) (F.lacks store.now) (places.resume_of asked.now) line (failure_code failure.now) (string_bytes text.old) (string_bytes text.new)) }
 {
     let Some(name) = resume_of(asked) else {
         return Ok(());
@@ -249,7 +253,7 @@ fn put_file_line<F: Store>(
     line: usize,
     store: &F,
 ) -> Result<(), OutOfMemory>
-    ensures { OnOk result (TellsFileLine (F.holds store.now) (F.lacks store.now) (Some name.now) line (failure_code failure.now) (string_bytes text.old) (string_bytes text.new)) }
+    ensures { OnOk result (TellsFileLine (TellsIt (F.holds store.now) (F.lacks store.now) asked.now failure.now is_log) (F.holds store.now) (F.lacks store.now) (Some name.now) line (failure_code failure.now) (string_bytes text.old) (string_bytes text.new)) }
 {
     let bytes = loaded_whole(alloc, name, store)?;
     let named = Named {
@@ -268,7 +272,7 @@ fn put_behind_log<F: Store>(
     failure: &Failure,
     store: &F,
 ) -> Result<(), OutOfMemory>
-    ensures { OnOk result (TellsBehindFileEnd (F.holds store.now) (F.lacks store.now) (places.resume_of asked.now) (failure_code failure.now) (string_bytes text.old) (string_bytes text.new)) }
+    ensures { OnOk result (TellsBehindFileEnd (TellsIt (F.holds store.now) (F.lacks store.now) asked.now failure.now true) (F.holds store.now) (F.lacks store.now) (places.resume_of asked.now) (failure_code failure.now) (string_bytes text.old) (string_bytes text.new)) }
 {
     let Some(name) = resume_of(asked) else {
         return Ok(());
@@ -292,7 +296,7 @@ fn put_input<F: Store>(
     store: &F,
     input: &[u8],
 ) -> Result<(), OutOfMemory>
-    ensures { OnOk result (TellsInput (F.holds store.now) (F.lacks store.now) (places.input_name asked.now) (places.inputs_of asked.now) input.now line (failure_code failure.now) (string_bytes text.old) (string_bytes text.new)) }
+    ensures { OnOk result (TellsInput (F.holds store.now) (F.lacks store.now) asked.now failure.now (places.inputs_of asked.now) input.now line (string_bytes text.old) (string_bytes text.new)) }
 {
     match inputs_of(asked) {
         Some(name) => put_file_line(alloc, text, asked, failure, name, false, line, store),
@@ -310,7 +314,7 @@ fn put_input_line<F: Store>(
     store: &F,
     input: &[u8],
 ) -> Result<(), OutOfMemory>
-    ensures { OnOk result (TellsLine (places.input_name asked.now) line (failure_code failure.now) input.now (string_bytes text.old) (string_bytes text.new)) }
+    ensures { OnOk result (TellsLine (TellsIt (F.holds store.now) (F.lacks store.now) asked.now failure.now (places.stands_log asked.now)) (places.input_name asked.now) line (failure_code failure.now) input.now (string_bytes text.old) (string_bytes text.new)) }
 {
     let name = input_name(asked);
     let named = Named {
@@ -330,7 +334,7 @@ fn put_behind_input<F: Store>(
     store: &F,
     input: &[u8],
 ) -> Result<(), OutOfMemory>
-    ensures { OnOk result (TellsBehindEnd (places.input_name asked.now) (failure_code failure.now) input.now (string_bytes text.old) (string_bytes text.new)) }
+    ensures { OnOk result (TellsBehindEnd (TellsIt (F.holds store.now) (F.lacks store.now) asked.now failure.now true) (places.input_name asked.now) (failure_code failure.now) input.now (string_bytes text.old) (string_bytes text.new)) }
 {
     let named = Named {
         name: input_name(asked),
@@ -349,7 +353,7 @@ fn put_behind_end<F: Store>(
     named: Named<'_>,
     store: &F,
 ) -> Result<(), OutOfMemory>
-    ensures { OnOk result (TellsBehindEnd named.entry.name.now (failure_code failure.now) named.entry.bytes.now (string_bytes text.old) (string_bytes text.new)) }
+    ensures { OnOk result (TellsBehindEnd (TellsIt (F.holds store.now) (F.lacks store.now) asked.now failure.now named.entry.is_log) named.entry.name.now (failure_code failure.now) named.entry.bytes.now (string_bytes text.old) (string_bytes text.new)) }
 {
     let line = behind_end(alloc, asked, store, named.bytes)?;
     put_heard_on(alloc, text, asked, failure, named, line, store)
@@ -380,7 +384,7 @@ fn put_heard_on<F: Store>(
     line: Option<usize>,
     store: &F,
 ) -> Result<(), OutOfMemory>
-    ensures { OnOk result (TellsActionOn named.entry.name.now line (failure_code failure.now) named.entry.bytes.now (string_bytes text.old) (string_bytes text.new)) }
+    ensures { OnOk result (TellsActionOn (TellsIt (F.holds store.now) (F.lacks store.now) asked.now failure.now named.entry.is_log) named.entry.name.now line (failure_code failure.now) named.entry.bytes.now (string_bytes text.old) (string_bytes text.new)) }
 {
     match line {
         Some(line) => put_heard_line(alloc, text, asked, failure, named, line, store),
@@ -398,7 +402,7 @@ fn put_heard_line<F: Store>(
     line: usize,
     store: &F,
 ) -> Result<(), OutOfMemory>
-    ensures { OnOk result (TellsLine named.entry.name.now line (failure_code failure.now) named.entry.bytes.now (string_bytes text.old) (string_bytes text.new)) }
+    ensures { OnOk result (TellsLine (TellsIt (F.holds store.now) (F.lacks store.now) asked.now failure.now named.entry.is_log) named.entry.name.now line (failure_code failure.now) named.entry.bytes.now (string_bytes text.old) (string_bytes text.new)) }
 {
     let heard = Heard {
         bytes: named.bytes,
@@ -422,7 +426,9 @@ fn program_asked<F: Store>(
     alloc: Global,
     asked: &Request<'_>,
     store: &F,
-) -> Result<Option<Program>, OutOfMemory> {
+) -> Result<Option<Program>, OutOfMemory>
+    ensures { IfOk result (IsAskedProgram (F.holds store.now) (F.lacks store.now) (spec.source_of asked.now)) }
+{
     let Some((name, composition)) = source_of(asked) else {
         return Ok(None);
     };
@@ -430,21 +436,34 @@ fn program_asked<F: Store>(
     program_in(alloc, bytes.as_slice(), composition)
 }
 
-/// What is wrong with a line that was heard, in words.
+/// What is wrong with a line that was heard, in words, or what the failure's code says in general.
 fn heard_words<F: Store>(
     alloc: Global,
     asked: &Request<'_>,
     failure: &Failure,
     heard: Heard<'_>,
     store: &F,
-) -> Result<String, OutOfMemory> {
-    let mut words = String::new(alloc);
-    let is_told = match program_asked(alloc, asked, store)? {
-        Some(program) => heard::put(alloc, &mut words, asked, failure, &program, heard)?,
-        None => false,
-    };
-    if !is_told {
-        words.push_str(wording(failure.code()))?;
+) -> Result<String, OutOfMemory>
+    ensures { IfOk result (λ words. AreHeardWords (F.holds store.now) (F.lacks store.now) failure.now asked.now heard.entry.is_log heard.entry.bytes.now heard.entry.line (string_bytes words)) }
+{
+    match found_words(alloc, asked, failure, heard, store)? {
+        Some(words) => Ok(words),
+        None => Ok(general(alloc, failure.code())?),
     }
-    Ok(words)
+}
+
+/// What is wrong with a line that was heard, by the program of which the request asks.
+fn found_words<F: Store>(
+    alloc: Global,
+    asked: &Request<'_>,
+    failure: &Failure,
+    heard: Heard<'_>,
+    store: &F,
+) -> Result<Option<String>, OutOfMemory>
+    ensures { IfOk result (λ found. FindsHeard (F.holds store.now) (F.lacks store.now) failure.now asked.now heard.entry.is_log heard.entry.bytes.now heard.entry.line (option_map string_bytes found)) }
+{
+    match program_asked(alloc, asked, store)? {
+        Some(program) => heard::words(alloc, asked, failure, &program, heard),
+        None => Ok(None),
+    }
 }

@@ -1,21 +1,25 @@
 //! Where a source names what is told of.
 
-ghost use Rattle.std.specs.Prelude.{◌≡◌, IfOk, IfSome, Some, find, reverse, option_map};
+ghost use Rattle.std.specs.Prelude.{◌≡◌, IfOk, IfSome, Some, find, reverse, option_map, true};
 ghost use Rattle.std.specs.Option.{option_copied};
 ghost use Rattle.std.specs.Str.{bytes_eq};
 ghost use Rattle.ioa_lex.specs.Lexing.{placed};
+ghost use Rattle.ioa_lex.specs.Tokens as lexed;
+ghost use Rattle.ioa_lex.specs.Tokens.{kind_shown};
 ghost use Rattle.ioa_tree.specs.Compositions as compositions;
 ghost use Rattle.ioa_tree.specs.Tree.{CompositionTree};
 ghost use Rattle.ioa_tree.specs.View.{assembly_of, tree_of};
 ghost use Rattle.ioa_syntax.specs.Stuck.{IsNumbered};
 ghost use Rattle.ioa_compose.specs.Refusals.{IsRefused};
+ghost use Rattle.ioa_causes.specs.Composing.{IsOn};
+ghost use Rattle.ioa_causes.specs.Words.{StandsOn};
 ghost use Rattle.ioa_serving.specs.Headline.{Spells};
 
 use ioa_check::{Checked, check};
 use ioa_compose::compose;
-use ioa_lex::Token;
+use ioa_lex::{Kind, Token};
 use ioa_syntax::{Numbered, Refusal, parse, parse_numbered};
-use ioa_tree::{Assembly, Declaration};
+use ioa_tree::{Assembly, Declaration, Name};
 use ioa_value::OutOfMemory;
 use std::alloc::Global;
 
@@ -123,4 +127,41 @@ fn last_composition(declarations: &[Declaration]) -> Option<&Assembly>
         }
     }
     last
+}
+
+/// The line of the token that is the name, whose own line is the index of a token.
+pub fn line_on(tokens: &[Token], name: &Name) -> Option<u32>
+    ensures { IfSome result (IsOn tokens.now name.now) }
+{
+    line_of_name(tokens, name.line, name.text.as_str())
+}
+
+/// The line of the token of this index, where it is this name.
+fn line_of_name(tokens: &[Token], index: u32, name: &str) -> Option<u32>
+    ensures { IfSome result (λ line. StandsOn tokens.now index (lexed.name name.now) line) }
+{
+    let token = tokens.get(index as usize)?;
+    if is_name(&token.kind, name) {
+        Some(token.line)
+    } else {
+        None
+    }
+}
+
+fn is_name(kind: &Kind, name: &str) -> bool
+    ensures { result ≡ true → kind_shown kind.now ≡ lexed.name name.now }
+{
+    match name_in(kind) {
+        Some(found) => found == name,
+        None => false,
+    }
+}
+
+fn name_in(kind: &Kind) -> Option<&str>
+    ensures { IfSome result (λ x. kind_shown kind.now ≡ lexed.name x.now) }
+{
+    match kind {
+        Kind::Name(name) => Some(name.as_str()),
+        Kind::Number(_) | Kind::Terminal(_) => None,
+    }
 }

@@ -4,10 +4,8 @@ ghost use Rattle.std.specs.Prelude.{◌≡◌, IfOk, IfSome, MatchOption, None, 
 ghost use Rattle.std.specs.String.{string_bytes};
 ghost use Rattle.ioac.specs.Unseen as spec;
 
-use ioa_causes::entry_named;
 use ioa_compile::{Entry, Member, Program};
-use ioa_rules::automaton_named;
-use ioa_tree::{Assembly, Declaration, Kind};
+use ioa_tree::Kind;
 use ioa_value::OutOfMemory;
 use std::alloc::Global;
 
@@ -84,7 +82,8 @@ fn internal_entry(member: &Member) -> Option<&Entry>
     None
 }
 
-fn is_internal(kind: Kind) -> bool
+/// Whether an entry of this kind is internal.
+pub fn is_internal(kind: Kind) -> bool
     ensures { result ≡ spec.is_internal kind }
 {
     match kind {
@@ -100,29 +99,6 @@ fn hidden_of(program: &Program) -> Option<Unseen<'_>>
     match program.hidden() {
         [name, ..] => Some(Unseen::Hidden(name.as_str())),
         [] => None,
-    }
-}
-
-/// The line on which a source declares it. None, where it does not.
-pub fn line_of_unseen(
-    declarations: &[Declaration],
-    assembly: &Assembly,
-    unseen: Unseen<'_>,
-) -> Option<usize> {
-    match unseen {
-        Unseen::Internal { action, component } => {
-            let instance = assembly
-                .instances
-                .iter()
-                .find(|instance| instance.name.is(component))?;
-            let automaton = automaton_named(declarations, &instance.automaton)?;
-            let entry = entry_named(&automaton.entries, action)?;
-            Some(entry.name.line as usize)
-        }
-        Unseen::Hidden(name) => {
-            let hidden = assembly.hidden.iter().find(|hidden| hidden.is(name))?;
-            Some(hidden.line as usize)
-        }
     }
 }
 
