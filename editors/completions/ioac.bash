@@ -22,7 +22,7 @@ _ioac() {
     dump) options='--explain --help' ;;
     replay) options='--comp --log --invariants --states --explain --help' ;;
     log) options='--comp --explain --help' ;;
-    run) options='--comp --alone --turns --seed --words --seeds --inputs --resume --log --reports --explain --help' ;;
+    run) options='--comp --alone --turns --seed --words --seeds --monitor --inputs --resume --log --reports --explain --help' ;;
     monitor) options='--comp --explain --help' ;;
     watch) options='--comp --first --explain --help' ;;
     chart) options='--comp --from --to --without --explain --help' ;;
@@ -33,7 +33,7 @@ _ioac() {
     *) return ;;
   esac
   case $before in
-    --comp) mapfile -t COMPREPLY < <(compgen -W "$(_ioac_compositions "${COMP_WORDS[@]:2}")" -- "$word") ;;
+    --comp | --monitor) mapfile -t COMPREPLY < <(compgen -W "$(_ioac_compositions "${COMP_WORDS[@]:2}")" -- "$word") ;;
     --turns | --seed | --seeds | --from | --to | --without) COMPREPLY=() ;;
     --words | --inputs | --resume) mapfile -t COMPREPLY < <(compgen -f -- "$word") ;;
     *)

@@ -1,22 +1,22 @@
 -- What the matches of a command line ask for.
-use Rattle.std.proofs.Common.{◌≡◌, List, Option, Some, None, IfSome, IfNone, refl, sym, ◌∙◌, ap, ap₂, subst, codes, option_map, true, false}
-use Rattle.std.specs.Option.{option_and_then, option_copied, option_map_or}
+use Rattle.std.proofs.Common.{◌≡◌, List, [], Option, Some, None, IfSome, IfNone, refl, sym, ◌∙◌, ap, ap₂, subst, codes, option_map, true, false}
+use Rattle.std.specs.Option.{option_and_then, option_copied, option_map_or, unwrap_or}
 use Rattle.std.specs.Prelude.{ℕ, is_some}
 use Rattle.std.specs.Str.{bytes_eq}
 use Rattle.std.proofs.lemmas.Bool.{false≢true}
 use Rattle.std.specs.Box.{box_value}
 use Rattle.std.specs.Borrow.{Bor}
-use Rattle.clap.specs.Words.{Row, Text, all_of, first_of, first_value, found_of, rows_of, subcommand_name_of, subcommand_rows, subcommand_rows_of}
+use Rattle.clap.specs.Words.{Row, Text, all_of, first_of, first_value, found_of, matched_of, raw_values, rows_of, subcommand_name_of, subcommand_rows, subcommand_rows_of}
 use Rattle.clap.specs.declared.parser.matches.ArgMatches.{ArgMatches}
 use Rattle.clap.specs.declared.parser.matches.ArgMatches.TheViews.{out-ArgMatches, out-SubCommand}
-use Rattle.clap.proofs.WalkLemmas.{first_value-rows}
+use Rattle.clap.proofs.WalkLemmas.{first_value-rows, raw_values-rows}
 use Rattle.ioa_request.specs.declared.request.Request.{Request}
 use Rattle.ioa_request.specs.declared.seeds.Seeds.{Seeds}
 use Rattle.ioa_request.specs.declared.selection.Selection.{Selection}
 use Rattle.ioa_request.specs.declared.settings.Settings.{Settings}
 use Rattle.ioa_request.specs.declared.topic.Topic.{Topic}
 use Rattle.ioa_request.specs.Pasted.{IsPasted, texts}
-use Rattle.ioa_request.specs.CommandLine.{AreSeeds, AreSelected, AreSettings, IsAskedBy, Names, is_set}
+use Rattle.ioa_request.specs.CommandLine.{AreSeeds, AreSelected, AreSettings, IsAskedBy, Names, all_given, is_set}
 use Rattle.ioa_request.specs.Seeds.{range_in}
 use Rattle.ioa_request.specs.Selections.{are_in_order, bound_in}
 use Rattle.ioa_request.specs.Settings.{source_in, source_of, turns_in}
@@ -303,3 +303,13 @@ unordered found first last from to there a behind b out s h =
     let same : from ≡ s.from = cc in
     let alike : to ≡ s.to = cc in
     false≢true (out ∙ ap₂ are_in_order same alike ∙ h.order)
+
+-- the values of an option that may stand several times, as they are lent; none where it does not stand
+pub all_lent : (found : ArgMatches) (name : Text) (o : Option (Bor (List (Bor Text)))) (d v : Bor (List (Bor Text))) → v ≡ unwrap_or o d → d.now ≡ []
+    → option_map (λ s. texts s.now) o ≡ option_map raw_values (matched_of (found_of found) name) → texts v.now ≡ all_given name (rows_of (found_of found))
+all_lent found name None d v is empty e =
+    ap (λ (b : Bor (List (Bor Text))). texts b.now) is ∙ ap texts empty
+    ∙ ap (λ (p : Option (List Text)). option_map_or (λ values. values) p []) (e ∙ raw_values-rows (found_of found) name)
+all_lent found name (Some s) d v is empty e =
+    ap (λ (b : Bor (List (Bor Text))). texts b.now) is
+    ∙ ap (λ (p : Option (List Text)). option_map_or (λ values. values) p []) (e ∙ raw_values-rows (found_of found) name)

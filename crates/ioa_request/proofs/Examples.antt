@@ -10,7 +10,7 @@ use Rattle.ioa_arithmetic.specs.declared.arithmetic.Fault.{Fault}
 use Rattle.ioa_request.specs.declared.code.Code.{Code}
 use Rattle.ioa_request.specs.declared.request.Request.{Request}
 use Rattle.ioa_request.specs.declared.topic.Topic.{Topic}
-use Rattle.ioa_request.specs.CommandLine.{IsAsked, ioac_app, is_set}
+use Rattle.ioa_request.specs.CommandLine.{IsAsked, all_given, ioac_app, is_set}
 use Rattle.ioa_request.specs.Keys.{numbered_digits, numbered_key}
 use Rattle.ioa_request.specs.Pasted.{IsPasted}
 
@@ -210,3 +210,17 @@ charted_between = refl
 charted_whole : charted (codes "ioac" ∷ codes "chart" ∷ codes "f" ∷ []) ≡ Some (codes "chart", None, None, None)
 unfolding charted clap_on_literals
 charted_whole = refl
+
+-- the numbers of the seeds of many runs, and their specifications, of which there may be none
+sown : List Text → Option (Option Text × List Text)
+sown words = option_map (λ p. (first_of (codes "seeds") p.1, all_given (codes "monitor") p.1)) (subcommand_of ioac_app words)
+
+sown_by_two :
+    sown (codes "ioac" ∷ codes "run" ∷ codes "f" ∷ codes "--seeds" ∷ codes "1..9" ∷ codes "--monitor" ∷ codes "A" ∷ codes "--alone" ∷ codes "--monitor" ∷ codes "B" ∷ [])
+    ≡ Some (Some (codes "1..9"), codes "A" ∷ codes "B" ∷ [])
+unfolding sown clap_on_literals
+sown_by_two = refl
+
+sown_by_none : sown (codes "ioac" ∷ codes "run" ∷ codes "f" ∷ codes "--alone" ∷ codes "--seeds" ∷ codes "1..9" ∷ []) ≡ Some (Some (codes "1..9"), [])
+unfolding sown clap_on_literals
+sown_by_none = refl

@@ -1,5 +1,5 @@
 -- The command line that the program reads, in the words of the crate that parses it, and what it asks for.
-use Rattle.std.specs.Prelude.{◌≡◌, ◌&&◌, not, Bool, true, false, is_some, List, [], Option, Some, None, codes}
+use Rattle.std.specs.Prelude.{◌≡◌, ◌&&◌, ◌||◌, not, Bool, true, false, is_some, List, [], Option, Some, None, codes}
 use Rattle.std.specs.Option.{option_and_then, option_copied, option_map_or}
 use Rattle.std.specs.Str.{bytes_eq}
 use Rattle.clap.specs.Lexer.{usize_max}
@@ -88,6 +88,10 @@ words_rule = record (new_rule (codes "words")) { long = Some (codes "words"); va
 abbrev pub seeds_rule : Rule
 seeds_rule = record (new_rule (codes "seeds")) { long = Some (codes "seeds"); value_names = 1 }
 
+-- `--monitor SPEC`, once for each specification
+abbrev pub monitor_rule : Rule
+monitor_rule = record (new_rule (codes "monitor")) { long = Some (codes "monitor"); action = Some ArgAction.Append; value_names = 1 }
+
 -- `--inputs LFILE`
 abbrev pub inputs_rule : Rule
 inputs_rule = record (new_rule (codes "inputs")) { long = Some (codes "inputs"); value_names = 1 }
@@ -141,8 +145,8 @@ graph_app = with_rule (with_rule (with_rule (new_app (codes "graph")) file_rule)
 
 abbrev pub run_app : App
 run_app =
-    with_rule (with_rule (with_rule (with_rule (with_rule (with_rule (with_rule (with_rule (with_rule (with_rule (with_rule (with_rule (new_app (codes "run")) file_rule) comp_rule)
-    alone_rule) turns_rule) seed_rule) words_rule) seeds_rule) inputs_rule) resume_rule) log_rule) reports_rule) explain_rule
+    with_rule (with_rule (with_rule (with_rule (with_rule (with_rule (with_rule (with_rule (with_rule (with_rule (with_rule (with_rule (with_rule (new_app (codes "run")) file_rule) comp_rule)
+    alone_rule) turns_rule) seed_rule) words_rule) seeds_rule) monitor_rule) inputs_rule) resume_rule) log_rule) reports_rule) explain_rule
 
 -- a subcommand has to stand; where no word stands, help is given; there is a version, and a subcommand `help` of the crate that parses
 abbrev pub bare_app : App
@@ -198,6 +202,14 @@ pub record AreSettings (rows : List Row) (s : Settings) : Type 0 where
   pub log : is_set (codes "log") rows ≡ s.log
   pub reports : is_set (codes "reports") rows ≡ s.reports
 
+-- runs by many seeds are asked for, or what they alone have
+abbrev pub asks_seeds : List Row → Bool
+asks_seeds rows = is_some (first_of (codes "seeds") rows) || is_some (first_of (codes "monitor") rows)
+
+-- the values of an option that may stand several times, or not at all
+abbrev pub all_given : Text → List Row → List Text
+all_given option rows = option_map_or (λ values. values) (all_of option rows) []
+
 -- the runs are alone, and nothing is asked for that one run has
 abbrev pub admits_seeds : List Row → Bool
 admits_seeds rows =
@@ -209,6 +221,7 @@ pub record AreSeeds (rows : List Row) (s : Seeds) : Type 0 where
   pub run : AreSettings rows s.run
   pub admitted : admits_seeds rows ≡ true
   pub range : option_and_then range_in (first_of (codes "seeds") rows) ≡ Some (s.first, s.last)
+  pub monitors : all_given (codes "monitor") rows ≡ texts s.monitors.now
 
 -- the entries of this selection are what a subcommand's values ask for
 pub record AreSelected (rows : List Row) (s : Selection) : Type 0 where
@@ -239,7 +252,7 @@ IsAskedBy (Some found) (Request.Watch file compositions first counts) =
 IsAskedBy (Some found) (Request.Chart file composition selection) =
     (found.0 ≡ codes "chart") × Names found.1 file.now (option_copied composition) × AreSelected found.1 selection
 IsAskedBy (Some found) (Request.Graph file composition) = (found.0 ≡ codes "graph") × Names found.1 file.now (option_copied composition)
-IsAskedBy (Some found) (Request.Run settings) = (found.0 ≡ codes "run") × (first_of (codes "seeds") found.1 ≡ None) × AreSettings found.1 settings
+IsAskedBy (Some found) (Request.Run settings) = (found.0 ≡ codes "run") × (asks_seeds found.1 ≡ false) × AreSettings found.1 settings
 IsAskedBy (Some found) (Request.Seeds seeds) = (found.0 ≡ codes "run") × AreSeeds found.1 seeds
 IsAskedBy (Some found) (Request.Check file compositions) =
     (found.0 ≡ codes "check") × (first_of (codes "FILE") found.1 ≡ Some file.now) × (is_set (codes "compositions") found.1 ≡ compositions)

@@ -31,7 +31,7 @@ pub use key::{numbered_digits, numbered_key};
 pub use numerals::numeral;
 pub use reading::{is_explained, is_set, read_request};
 pub use request::{Request, parse};
-pub use seeds::{Seeds, is_given, read_range};
+pub use seeds::{Seeds, asks_seeds, is_given, read_range};
 pub use selection::{Selection, read_bound};
 pub use settings::{Settings, WordsFrom, read_turns};
 pub use topic::Topic;

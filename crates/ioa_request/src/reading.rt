@@ -9,7 +9,7 @@ ghost use Rattle.ioa_request.specs.declared.request.Request.{Request};
 
 use crate::pasted::pasted;
 use crate::request::Request;
-use crate::seeds::{is_given, read_seeds};
+use crate::seeds::{asks_seeds, read_seeds};
 use crate::selection::read_selection;
 use crate::settings::read_settings;
 use clap::ArgMatches;
@@ -101,7 +101,7 @@ fn read_run<'m>(found: &'m ArgMatches<'_>) -> Option<Request<'m>>
     ensures some { IfSome result (λ asked. IsAskedBy (Some (codes "run", rows_of (found_of found.now))) asked) }
     ensures none { IfNone result ((asked : Request) → IsAskedBy (Some (codes "run", rows_of (found_of found.now))) asked → ⊥) }
 {
-    if is_given(found, "seeds") {
+    if asks_seeds(found) {
         let seeds = read_seeds(found)?;
         return Some(Request::Seeds(seeds));
     }

@@ -2,7 +2,7 @@
 
 ghost use Rattle.std.specs.Prelude.{◌≡◌, false, codes, IfOk};
 ghost use Rattle.clap.specs.Words.{app_of, new_app, rule_of};
-ghost use Rattle.ioa_request.specs.CommandLine.{IsLocal, alone_rule, inputs_rule, log_rule, reports_rule, resume_rule, run_app, seed_rule, seeds_rule, turns_rule, words_rule};
+ghost use Rattle.ioa_request.specs.CommandLine.{IsLocal, alone_rule, inputs_rule, log_rule, monitor_rule, reports_rule, resume_rule, run_app, seed_rule, seeds_rule, turns_rule, words_rule};
 
 use crate::request::{composition_option, explain_flag, file_argument};
 use clap::{Arg, ArgAction, Command};
@@ -55,6 +55,20 @@ fn seeds_option<'a>(alloc: Global) -> Arg<'a>
         .value_name("A..B")
         .help(
             "With --alone: a run for each seed from number A to B, and its end on a line; then counts",
+        )
+}
+
+/// The names of the compositions that are asked whether they accept each run.
+fn monitor_option<'a>(alloc: Global) -> Arg<'a>
+    ensures rule { rule_of result ≡ monitor_rule }
+    ensures local { result.global ≡ false }
+{
+    Arg::new(alloc, "monitor")
+        .long("monitor")
+        .value_name("SPEC")
+        .action(ArgAction::Append)
+        .help(
+            "With --seeds: a composition that is asked whether it accepts each run; once for each",
         )
 }
 
@@ -111,6 +125,7 @@ pub fn run_command<'a>(alloc: Global) -> Result<Command<'a>, AllocError>
         .arg(seed_option(alloc))?
         .arg(words_option(alloc))?
         .arg(seeds_option(alloc))?
+        .arg(monitor_option(alloc))?
         .arg(inputs_option(alloc))?
         .arg(resume_option(alloc))?
         .arg(log_flag(alloc))?
@@ -130,13 +145,14 @@ fn described_run<'a>(alloc: Global) -> Command<'a>
              The environment performs the inputs of LFILE in order, one action a line, as `reset`.\n\
              WFILE has the words of the first component on its first line, in decimal, as `9 17 4`; then they are 0.\n\
              With --seeds each line has the 64 digits of a seed and the end of its run; the last line counts them. Such runs have\n\
-             no seed, words, log or reports of their own, and go on from none.\n\
+             no seed, words, log or reports of their own, and go on from none. With --monitor each line has the specification's answer, too,\n\
+             as `ioac monitor` gives it of the run's log: `Spec: ok`, or why not. The source has the specifications.\n\
              RFILE has a log as `ioac run --log` prints it: the run begins with its actions; turns, words and inputs begin anew.\n\
              Example: ioac run --alone --turns 20 protocol.ioa\n\
              Exit status: 0 done, 1 source or object refused, 2 bad command line, words or turns, 3 ended by a fault,\n\
-             4 inputs or log refused, 5 memory, a thread, a file or a device.",
+             4 inputs or log refused, a run not accepted, or no specification, 5 memory, a thread, a file or a device.",
         )
         .override_usage(
-            "ioac run [--comp <NAME>] [--alone] [--turns <N>] [--seed <HEX>|--words <WFILE>|--seeds <A..B>] [--inputs <LFILE>] [--resume <RFILE>] [--log] [--reports] [--explain] <FILE>",
+            "ioac run [--comp <NAME>] [--alone] [--turns <N>] [--seed <HEX>|--words <WFILE>|--seeds <A..B> [--monitor <SPEC>]..] [--inputs <LFILE>] [--resume <RFILE>] [--log] [--reports] [--explain] <FILE>",
         )
 }

@@ -4,6 +4,7 @@ ghost use Rattle.std.specs.Prelude.{◌≡◌, IfSome, IfNone, is_some};
 ghost use Rattle.clap.specs.Words.{first_of, found_of, rows_of};
 ghost use Rattle.ioa_request.specs.CommandLine.{AreSeeds};
 ghost use Rattle.ioa_request.specs.CommandLine as asked;
+ghost use Rattle.ioa_request.specs.Pasted.{texts};
 ghost use Rattle.ioa_request.specs.Seeds as spec;
 ghost use Rattle.ioa_request.specs.declared.seeds.Seeds.{Seeds};
 
@@ -22,22 +23,44 @@ pub struct Seeds<'a> {
     pub first: u64,
     /// The number of the last seed, which is run, too.
     pub last: u64,
+    /// The compositions that are asked whether they accept each run.
+    pub monitors: &'a [&'a str],
 }
 
 /// The runs that words without a fault ask for. None where no numbers of seeds are given, or none that are a range, where the settings are
 /// none, or where what is asked for besides does not go with many seeds.
-pub fn read_seeds<'a>(found: &ArgMatches<'a>) -> Option<Seeds<'a>>
+pub fn read_seeds<'m>(found: &'m ArgMatches<'_>) -> Option<Seeds<'m>>
     ensures some { IfSome result (λ s. AreSeeds (rows_of (found_of found.now)) s) }
     ensures none { IfNone result ((s : Seeds) → AreSeeds (rows_of (found_of found.now)) s → ⊥) }
 {
     let word = found.get_str("seeds")?;
     let (first, last) = read_range(word)?;
     let run = read_settings(found)?;
+    let monitors = all_given(found, "monitor");
     if admits_seeds(found) {
-        Some(Seeds { run, first, last })
+        Some(Seeds {
+            run,
+            first,
+            last,
+            monitors,
+        })
     } else {
         None
     }
+}
+
+/// The values of an option that may stand several times, or not at all.
+fn all_given<'a>(found: &'a ArgMatches<'a>, option: &str) -> &'a [&'a str]
+    ensures { texts result.now ≡ asked.all_given option.now (rows_of (found_of found.now)) }
+{
+    found.get_strs(option).unwrap_or(&[])
+}
+
+/// Whether runs by many seeds are asked for, or what they alone have.
+pub fn asks_seeds(found: &ArgMatches<'_>) -> bool
+    ensures { result ≡ asked.asks_seeds (rows_of (found_of found.now)) }
+{
+    is_given(found, "seeds") || is_given(found, "monitor")
 }
 
 /// The first number and the last one of `A..B`, if the word is that of two numbers of 64 bits, of which the first is no greater.

@@ -67,14 +67,19 @@ first_refused s ds i d r same lt is h k = record {
   refused = k.2;
 }
 
+-- one that is refused, by its name or as the last
+pub refused_as : (s : SourceTree) (name : Option Name) (r : Refusal) → (picked s name ≡ None → r ≡ refusals.NoComposition)
+    → ((t : CompositionTree) → picked s name ≡ Some t → composing.IsRefused s t r) → IsRefusedNamed s name r
+refused_as s name r missing refused = go (picked s name) refl
+  where
+    go : (o : Option CompositionTree) → picked s name ≡ o → IsRefusedNamed s name r
+    go None e = inl (e, missing e)
+    go (Some t) e = inr (t, e, refused t e)
+
 -- one that is refused by its name
 pub refused_named : (s : SourceTree) (name : Name) (x : Name) (r : Refusal) → name ≡ x → (picked s (Some name) ≡ None → r ≡ refusals.NoComposition)
     → ((t : CompositionTree) → picked s (Some name) ≡ Some t → composing.IsRefused s t r) → IsRefusedNamed s (Some x) r
-refused_named s name x r same missing refused = subst (λ (n : Name). IsRefusedNamed s (Some n) r) same (go (picked s (Some name)) refl)
-  where
-    go : (o : Option CompositionTree) → picked s (Some name) ≡ o → IsRefusedNamed s (Some name) r
-    go None e = inl (e, missing e)
-    go (Some t) e = inr (t, e, refused t e)
+refused_named s name x r same missing refused = subst (λ (n : Name). IsRefusedNamed s (Some n) r) same (refused_as s (Some name) r missing refused)
 
 -- what composing each answers, told of the text
 pub all_fine : {T : Type 0} (r : Result T Refusal) (text : List ℕ) (asked : Bool) (s u : SourceTree) → asked ≡ true → Spells text s → u ≡ s → WellFormed s

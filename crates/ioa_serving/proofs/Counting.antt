@@ -19,13 +19,13 @@ use Rattle.ioa_serving.specs.Counting.{MayTell, counted_lines, counted_text, cou
 
 -- ---- a name with its count
 
-pub zipped_at : (ns : List (Bor Name)) (ks : List ℕ) (i : ℕ) (n : Bor Name) (k : ℕ) → slice_get ns i ≡ Some n → slice_get ks i ≡ Some k → slice_get (zip (shown ns) ks) i ≡ Some (n.now, k)
+pub zipped_at : {K : Type 0} (ns : List (Bor Name)) (ks : List K) (i : ℕ) (n : Bor Name) (k : K) → slice_get ns i ≡ Some n → slice_get ks i ≡ Some k → slice_get (zip (shown ns) ks) i ≡ Some (n.now, k)
 zipped_at [] ks i n k d e = absurd (cc)
 zipped_at (m ∷ ns) [] i n k d e = absurd (cc)
 zipped_at (m ∷ ns) (j ∷ ks) zero n k d e = let a : m ≡ n = cc in let b : j ≡ k = cc in rw a (rw b refl)
 zipped_at (m ∷ ns) (j ∷ ks) (suc i) n k d e = zipped_at ns ks i n k d e
 
-pub zipped_few : (ns : List (Bor Name)) (ks : List ℕ) → length (zip (shown ns) ks) ≤ length ns
+pub zipped_few : {K : Type 0} (ns : List (Bor Name)) (ks : List K) → length (zip (shown ns) ks) ≤ length ns
 zipped_few [] ks = omega arith
 zipped_few (m ∷ ns) [] = omega arith
 zipped_few (m ∷ ns) (j ∷ ks) = omega (arith, zipped_few ns ks)

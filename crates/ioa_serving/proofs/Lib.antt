@@ -9,6 +9,7 @@ pub mod Going
 pub mod Grouping
 pub mod Hosted
 pub mod Kept
+pub mod Judging
 pub mod ListedLines
 pub mod Logged
 pub mod Made
@@ -24,6 +25,7 @@ pub mod SeedCuts
 pub mod SeedLines
 pub mod SeedsServed
 pub mod Sharing
+pub mod Sowing
 pub mod Specified
 pub mod Streams
 pub mod Subjects

@@ -1,11 +1,17 @@
--- Runs of a program by many seeds, before they are told of what it runs as.
-use Rattle.std.specs.Prelude.{◌≡◌, ◌≢◌, ◌≤◌, ◌^◌, ◌⊎◌, ◌∷◌, ◌==◌, ℕ, suc, List, [], Err, Ok, Option, if◌then◌else◌, length, map}
+-- Runs of a program by many seeds, and what programs answer to them, before they are told of what they run as.
+use Rattle.std.specs.Prelude.{◌≡◌, ◌≢◌, ◌≤◌, ◌^◌, ◌⊎◌, ◌∷◌, ℕ, suc, All, false, List, [], Err, Ok, Option, Some, length, map}
 use Rattle.std.specs.Io.KnownBytes.{Appends, Keeps}
+use Rattle.std.specs.List.{AllZip}
+use Rattle.std.specs.Option.{option_copied, option_map}
 use Rattle.rand_chacha.specs.ChaCha.{ChaCha}
-use Rattle.ioa_value.specs.Actions.{Act}
+use Rattle.ioa_value.specs.Actions.{Act, Name, act_of}
+use Rattle.ioa_tree.specs.Hosts.{Hosted}
 use Rattle.ioa_tree.specs.Runs.{Ending}
 use Rattle.ioa_compile.specs.Programs.{Prog}
-use Rattle.ioa_system.specs.Logs.{Logged, log_end}
+use Rattle.ioa_compile.specs.Tables.{start_states, tabled}
+use Rattle.ioa_system.specs.Logs.{Logged, log_end, log_entry, logged}
+use Rattle.ioa_system.specs.Outcomes.{ending_of}
+use Rattle.ioa_log.specs.Monitoring.{IsSeen, hides, monitored}
 use Rattle.ioa_run.specs.declared.outcome.Outcome.{Outcome}
 use Rattle.ioa_run.specs.declared.run_err.RunErr.{RunErr}
 use Rattle.ioa_run.specs.Alone.{IsAloneSince, IsOutcomeFrom, NoMemory, RefusesResumed}
@@ -14,14 +20,44 @@ use Rattle.ioa_run.specs.Seeds.{words_from}
 use Rattle.ioa_request.specs.Keys.{numbered_key}
 use Rattle.ioa_request.specs.declared.seeds.Seeds.{Seeds}
 use Rattle.ioa_serving.specs.declared.failure.Failure.{Failure}
-use Rattle.ioa_serving.specs.declared.seeds.Counts.{Counts}
-use Rattle.ioa_serving.specs.declared.status.Status.{Status}
-use Rattle.ioa_serving.specs.Seeds.{IsSeedsCut, dones_among, faults_among, seed_lines, seeds_count}
+use Rattle.ioa_serving.specs.declared.judged.JudgedRun.{JudgedRun}
+use Rattle.ioa_serving.specs.declared.seed_counts.Counts.{Counts}
+use Rattle.ioa_serving.specs.declared.sown.Sown.{Sown}
+use Rattle.ioa_serving.specs.HasRun.{HasReady}
+use Rattle.ioa_serving.specs.Headline.{IsFileOf}
+use Rattle.ioa_serving.specs.Logs.{performed_in}
+use Rattle.ioa_serving.specs.Running.{Runs}
+use Rattle.ioa_serving.specs.Seeds.{IsSeedsCut, Judged, dones_among, faults_among, monitors_of, refusals_among, seed_lines, seeds_count}
 use Rattle.ioa_serving.specs.Serving.{run_failure}
 use Rattle.ioa_serving.specs.Streams.{AreStreams}
+use Rattle.ioa_serving.specs.Subjects.{of_hosts}
 
--- a run of the program by the seed of this number, on one thread, ended so
-pub record IsSeedRun (p : Prog) (before : Logged) (script : List Act) (turns n : ℕ) (end : Ending) : Type 0 where
+-- ---- what is read
+
+-- the text is a source, all is seen that the hosts do of its composition of this name, and the program does what they do
+abbrev pub IsSpecification : List ℕ → Name → Prog → Type 0
+IsSpecification text name p = (h : Hosted) × IsFileOf text (Some name) (of_hosts h) × IsSeen h × Runs p h
+
+-- all was read, of a file that may hold this text, which has the specifications
+pub record HasSown (holds : Name → List ℕ → Type 0) (s : Seeds) (w : Sown) : Type 0 where
+  pub text : List ℕ
+  pub held : holds s.run.file.now text
+  pub ready : HasReady holds s.run w.ready
+  pub gives : IsFileOf text (option_copied s.run.composition) ready.subject
+  pub specified : AllZip (IsSpecification text) (monitors_of s) w.specifications.items
+
+-- ---- one run
+
+-- why the program's table does not accept what the log tells to be performed; none where it does
+abbrev pub table_answer : Logged → Prog → Option Ending
+table_answer log p = monitored (tabled p) (performed_in log) (start_states p)
+
+-- a run that is judged, as plain data
+abbrev pub judged_of : JudgedRun → Judged
+judged_of j = record { log = logged j.log; answers = map (option_map ending_of) j.answers.items }
+
+-- a run of the program by the seed of this number, on one thread, has this log
+pub record IsSeedRun (p : Prog) (before : Logged) (script : List Act) (turns n : ℕ) (log : Logged) : Type 0 where
   pub outcome : Outcome
   pub sources : List ChaCha
   pub came : IsOutcomeFrom p before.entries script turns outcome
@@ -30,40 +66,45 @@ pub record IsSeedRun (p : Prog) (before : Logged) (script : List Act) (turns n :
   pub streams : AreStreams (numbered_key n) (length p.members) sources
   pub alone : IsAloneSince p before (map words_from sources) script turns outcome
   pub begun : RefusesResumed p script turns before (Ok outcome)
-  pub ends : end ≡ log_end outcome.end
+  pub is_log : log ≡ record { entries = map log_entry outcome.log.items; ending = log_end outcome.end }
 
-abbrev pub AreSeedRuns : Prog → Logged → List Act → ℕ → ℕ → List Ending → Type 0
-AreSeedRuns p before script turns n [] = Unit {0}
-AreSeedRuns p before script turns n (end ∷ ends) = IsSeedRun p before script turns n end × AreSeedRuns p before script turns (suc n) ends
+-- and so the specifications' tables answer to it
+pub record IsSeedJudgment (w : Sown) (turns n : ℕ) (j : Judged) : Type 0 where
+  pub run : IsSeedRun w.ready.program (logged w.ready.log) (map act_of w.ready.script.items) turns n j.log
+  pub answers : j.answers ≡ map (table_answer j.log) w.specifications.items
+
+abbrev pub AreSeedJudgments : Sown → ℕ → ℕ → List Judged → Type 0
+AreSeedJudgments w turns n [] = Unit {0}
+AreSeedJudgments w turns n (j ∷ js) = IsSeedJudgment w turns n j × AreSeedJudgments w turns (suc n) js
 
 -- why it is not run: as no run of it is, or since memory is short or refused to one of its workers
-abbrev pub IsSeedRefused : Prog → Logged → List Act → ℕ → RunErr → Type 0
-IsSeedRefused p before script turns e = (e ≡ RunErr.OutOfMemory) ⊎ ((e ≢ RunErr.Threads) × RefusesResumed p script turns before (Err e))
+abbrev pub IsSeedRefused : Sown → ℕ → RunErr → Type 0
+IsSeedRefused w turns e =
+    (e ≡ RunErr.OutOfMemory) ⊎ ((e ≢ RunErr.Threads) × RefusesResumed w.ready.program (map act_of w.ready.script.items) turns (logged w.ready.log) (Err e))
 
--- where no run ended by a fault, all is done
-abbrev pub counts_status : Counts → Status
-counts_status c = if c.fault == 0 then Status.Done else Status.Faulted
+-- ---- all runs
 
--- so many runs did not end by a fault, and so many did
-pub record IsCountOf (c : Counts) (ends : List Ending) : Type 0 where
-  pub done : c.done ≡ dones_among ends
-  pub fault : c.fault ≡ faults_among ends
+-- so many runs did not end by a fault, so many did, and so many each of the specifications does not accept
+pub record IsCountOf (specifications : ℕ) (c : Counts) (js : List Judged) : Type 0 where
+  pub done : c.done ≡ dones_among js
+  pub fault : c.fault ≡ faults_among js
+  pub refusals : c.refusals.items ≡ refusals_among specifications js
 
 -- all runs from the first to the last number, which has 64 bits, are told, and counted
-pub record IsTold (p : Prog) (before : Logged) (script : List Act) (s : Seeds) (old new : Option (List ℕ)) (c : Counts) (ends : List Ending) : Type 0 where
-  pub count : length ends ≡ seeds_count s
-  pub runs : AreSeedRuns p before script s.run.turns s.first ends
-  pub counted : IsCountOf c ends
-  pub within : length ends ≤ 2 ^ 64
-  pub output : Appends old new (seed_lines s.first ends)
+pub record IsTold (w : Sown) (s : Seeds) (old new : Option (List ℕ)) (c : Counts) (js : List Judged) : Type 0 where
+  pub count : length js ≡ seeds_count s
+  pub runs : AreSeedJudgments w s.run.turns s.first js
+  pub counted : IsCountOf (length w.specifications.items) c js
+  pub within : length js ≤ 2 ^ 64
+  pub output : Appends old new (seed_lines (monitors_of s) s.first js)
 
 -- or the first ones, and then the device failed, or memory was short
-pub record IsBegun (p : Prog) (before : Logged) (script : List Act) (s : Seeds) (failed : Type 0) (old new : Option (List ℕ)) (e : Failure) : Type 0 where
-  pub ends : List Ending
-  pub few : length ends ≤ seeds_count s
-  pub runs : AreSeedRuns p before script s.run.turns s.first ends
-  pub cut : IsSeedsCut s ends failed old new e
+pub record IsBegun (w : Sown) (s : Seeds) (failed : Type 0) (old new : Option (List ℕ)) (e : Failure) : Type 0 where
+  pub judged : List Judged
+  pub few : length judged ≤ seeds_count s
+  pub runs : AreSeedJudgments w s.run.turns s.first judged
+  pub cut : IsSeedsCut s judged failed old new e
 
 -- nothing was run
-abbrev pub IsNoneRun : Prog → Logged → List Act → ℕ → Option (List ℕ) → Option (List ℕ) → Failure → Type 0
-IsNoneRun p before script turns old new e = ((r : RunErr) × (e ≡ run_failure r) × IsSeedRefused p before script turns r) × Keeps old new
+abbrev pub IsNoneRun : Sown → ℕ → Option (List ℕ) → Option (List ℕ) → Failure → Type 0
+IsNoneRun w turns old new e = ((r : RunErr) × (e ≡ run_failure r) × IsSeedRefused w turns r) × Keeps old new

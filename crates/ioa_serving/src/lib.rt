@@ -20,6 +20,7 @@ mod object_file;
 
 // Lists and logs.
 mod invariant_replay;
+mod judged;
 mod list_log;
 mod log_chart;
 mod log_replay;
@@ -37,7 +38,10 @@ mod run;
 mod run_log;
 mod script;
 mod seed;
+mod seed_counts;
+mod seed_lines;
 mod seeds;
+mod sown;
 mod trace;
 mod word_sources;
 mod words_file;

@@ -1,8 +1,10 @@
 //! What a run is given, from files: the program, the words of its workers, its script, and the log from which it goes on.
 
-ghost use Rattle.std.specs.Prelude.{IfOk, IfErr};
-ghost use Rattle.ioa_serving.specs.Alone.{IsUnrun};
+ghost use Rattle.std.specs.Prelude.{◌≡◌, IfOk, IfErr};
+ghost use Rattle.ioa_serving.specs.Alone.{IsUnrun, MayGive};
 ghost use Rattle.ioa_serving.specs.HasRun.{HasReady};
+ghost use Rattle.ioa_serving.specs.Running.{RunsAs};
+ghost use Rattle.ioa_serving.specs.Subjects.{Subject};
 
 use crate::compile::program_of;
 use crate::failure::Failure;
@@ -42,6 +44,24 @@ pub fn load_run<F: Store>(
 {
     let text = store.load(alloc, settings.file)?;
     let program = program_of(alloc, text.as_slice(), settings.composition)?;
+    ready_with(alloc, settings, program, store)
+}
+
+/// Reads what a run of this program is given besides.
+///
+/// # Errors
+/// As those of `load_run` behind the program.
+pub fn ready_with<F: Store>(
+    alloc: Global,
+    settings: &Settings<'_>,
+    program: Program,
+    store: &F,
+) -> Result<Ready, Failure>
+    ensures ready { IfOk result (λ r. (x : Subject) → MayGive (F.holds store.now) settings.now x → RunsAs program x
+        → (k : HasReady (F.holds store.now) settings.now r) × (k.subject ≡ x)) }
+    ensures refused { IfErr result (λ e. (x : Subject) → MayGive (F.holds store.now) settings.now x → RunsAs program x
+        → IsUnrun (F.holds store.now) (F.lacks store.now) settings.now e) }
+{
     let components = program.members().len();
     let words = load_words(alloc, settings.words, components, store)?;
     let script = load_script(alloc, program.types(), settings.inputs, store)?;

@@ -50,7 +50,7 @@ pub(crate) fn specified_in(
 }
 
 /// A source that is given as a text, checked.
-fn checked_source(alloc: Global, text: &[u8]) -> Result<Checked, Refusal>
+pub(crate) fn checked_source(alloc: Global, text: &[u8]) -> Result<Checked, Refusal>
     ensures spelled { IfOk result (λ c. Spells text.now (tree_of c)) }
     ensures well_formed { IfOk result (λ c. WellFormed (tree_of c)) }
     ensures refused { IfErr result (λ r. IsNoSource text.now r) }
@@ -61,7 +61,7 @@ fn checked_source(alloc: Global, text: &[u8]) -> Result<Checked, Refusal>
 }
 
 /// The programs of the compositions of these names, in their order.
-fn specifications(
+pub(crate) fn specifications(
     alloc: Global,
     checked: &Checked,
     compositions: &[&str],

@@ -1,9 +1,10 @@
 -- What is told of matches that ask for nothing.
-use Rattle.std.proofs.Common.{◌≡◌, Bool, List, Option, Some, None, refl, sym, ◌∙◌, ap, ap₂, codes, option_map, true, false}
+use Rattle.std.proofs.Common.{◌≡◌, Bool, List, Option, Some, None, if◌then◌else◌, refl, sym, ◌∙◌, ap, ap₂, codes, option_map, true, false}
 use Rattle.std.specs.Str.{bytes_eq}
 use Rattle.clap.specs.Words.{Row, Text, first_of, first_value, found_of, rows_of, subcommand_name_of, subcommand_rows_of}
 use Rattle.clap.specs.declared.parser.matches.ArgMatches.{ArgMatches}
-use Rattle.ioac.specs.Telling.{asks_both, bad_bounds_text, bad_request_text, bad_run_text, bad_run_text_by, bad_seeds_text, bad_settings_text, missing_log_text, unasked_text}
+use Rattle.ioac.specs.Telling.{asks_both, bad_bounds_text, bad_request_text, bad_run_text, bad_run_text_by, bad_seeds_text, bad_settings_text, missing_log_text, missing_seeds_text, unasked_text}
+use Rattle.ioa_request.specs.CommandLine.{asks_seeds}
 use Rattle.ioa_request.proofs.Asked.{given, lent}
 
 -- what is told of a run, and of another request
@@ -28,16 +29,25 @@ told_chart m found name from to e f other is a b =
     ap₂ bad_bounds_text (sym (given found (codes "from") from a)) (sym (given found (codes "to") to b)) ∙ sym chosen ∙ ap unasked_text (sym here)
 
 -- of a run whose settings are none
-pub told_settings : (found : ArgMatches) (turns seed file : Option Text) → None ≡ first_value (found_of found) (codes "seeds")
+pub told_settings : (found : ArgMatches) (turns seed file : Option Text) (many : Bool) → None ≡ first_value (found_of found) (codes "seeds")
     → turns ≡ first_value (found_of found) (codes "turns") → seed ≡ first_value (found_of found) (codes "seed") → file ≡ first_value (found_of found) (codes "words")
-    → bad_settings_text turns seed file ≡ bad_run_text (rows_of (found_of found))
-told_settings found turns seed file none t s w =
+    → many ≡ asks_seeds (rows_of (found_of found)) → many ≡ false → bad_settings_text turns seed file ≡ bad_run_text (rows_of (found_of found))
+told_settings found turns seed file many none t s w asks unasked =
     let rows = rows_of (found_of found) in
     let values : bad_settings_text turns seed file ≡ bad_settings_text (first_of (codes "turns") rows) (first_of (codes "seed") rows) (first_of (codes "words") rows) =
     ap (λ x. bad_settings_text x seed file) (sym (given found (codes "turns") turns t))
     ∙ ap (λ x. bad_settings_text (first_of (codes "turns") rows) x file) (sym (given found (codes "seed") seed s))
     ∙ ap (λ x. bad_settings_text (first_of (codes "turns") rows) (first_of (codes "seed") rows) x) (sym (given found (codes "words") file w)) in
-    values ∙ sym (ap (λ o. bad_run_text_by o rows) (given found (codes "seeds") None none))
+    let settings = bad_settings_text (first_of (codes "turns") rows) (first_of (codes "seed") rows) (first_of (codes "words") rows) in
+    values ∙ sym (ap (λ b. if b then missing_seeds_text else settings) (sym asks ∙ unasked)) ∙ sym (ap (λ o. bad_run_text_by o rows) (given found (codes "seeds") None none))
+
+-- of a single run with what runs by many seeds have
+pub told_missing : (found : ArgMatches) (many : Bool) → None ≡ first_value (found_of found) (codes "seeds") → many ≡ asks_seeds (rows_of (found_of found)) → many ≡ true
+    → missing_seeds_text ≡ bad_run_text (rows_of (found_of found))
+told_missing found many none asks asked =
+    let rows = rows_of (found_of found) in
+    let settings = bad_settings_text (first_of (codes "turns") rows) (first_of (codes "seed") rows) (first_of (codes "words") rows) in
+    sym (ap (λ b. if b then missing_seeds_text else settings) (sym asks ∙ asked)) ∙ sym (ap (λ o. bad_run_text_by o rows) (given found (codes "seeds") None none))
 
 -- of runs by many seeds
 pub told_seeds : (found : ArgMatches) (word : Text) (turns : Option Text) → Some word ≡ first_value (found_of found) (codes "seeds")

@@ -26,7 +26,7 @@ use Rattle.ioac.specs.Remarks.{IsChecking, source_of}
 abbrev pub composition_of : Request → Option Name
 composition_of request = option_and_then (λ p. p.1) (source_of request)
 
--- the specifications that a watch names
+-- the specifications that a watch names, or runs by many seeds
 abbrev pub specifications_of : Request → List Name
 specifications_of (Request.Watch file compositions first counts) = texts compositions.now
 specifications_of (Request.Replay file composition) = []
@@ -39,14 +39,14 @@ specifications_of (Request.Monitor file composition) = []
 specifications_of (Request.Chart file composition selection) = []
 specifications_of (Request.Graph file composition) = []
 specifications_of (Request.Run settings) = []
-specifications_of (Request.Seeds seeds) = []
+specifications_of (Request.Seeds seeds) = texts seeds.monitors.now
 specifications_of (Request.Check file compositions) = []
 specifications_of (Request.Compile file out composition) = []
 specifications_of (Request.Dump file) = []
 specifications_of (Request.Explain topic) = []
 specifications_of Request.Library = []
 
--- the composition that it names, or the last; of a watch one of those
+-- the composition that it names, or the last; or one of those
 abbrev pub IsOf : Request → Option Name → Type 0
 IsOf request name = (name ≡ composition_of request) ⊎ ((x : Name) × Contains (specifications_of request) x × (name ≡ Some x))
 

@@ -7,7 +7,7 @@ use Rattle.clap.specs.Words.{Row, Text, first_of}
 use Rattle.ioa_serving.specs.declared.failure.Failure.{Failure}
 use Rattle.ioa_serving.specs.declared.status.Status.{Status}
 use Rattle.ioa_request.specs.Codes.{all_codes, spelling}
-use Rattle.ioa_request.specs.CommandLine.{is_set}
+use Rattle.ioa_request.specs.CommandLine.{asks_seeds, is_set}
 use Rattle.ioa_serving.specs.Devices.{Change, Failed, Wrote}
 use Rattle.ioa_serving.specs.Printed.{failure_text}
 use Rattle.ioa_request.specs.Seeds.{range_in}
@@ -114,9 +114,15 @@ abbrev pub bad_seeds_text : Text → Option Text → List ℕ
 bad_seeds_text word turns =
     if is_some (range_in word) then bad_seeds_turns_text turns else invalid_value_text word (codes "--seeds <A..B>") seeds_wanted
 
--- of a run, or of runs by many seeds
+-- of specifications of a single run
+abbrev pub missing_seeds_text : List ℕ
+missing_seeds_text = codes "error: the argument '--monitor <SPEC>' needs '--seeds <A..B>'" ++ try_help
+
+-- of a run, of runs by many seeds, or of what these alone have
 abbrev pub bad_run_text_by : Option Text → List Row → List ℕ
-bad_run_text_by None rows = bad_settings_text (first_of (codes "turns") rows) (first_of (codes "seed") rows) (first_of (codes "words") rows)
+bad_run_text_by None rows =
+    if asks_seeds rows then missing_seeds_text
+    else bad_settings_text (first_of (codes "turns") rows) (first_of (codes "seed") rows) (first_of (codes "words") rows)
 bad_run_text_by (Some word) rows = bad_seeds_text word (first_of (codes "turns") rows)
 
 abbrev pub bad_run_text : List Row → List ℕ

@@ -15,7 +15,7 @@ use crate::telling::{put, put_short, reported};
 use clap::ArgMatches;
 use clap::error::ErrorKind;
 use ioa_log::{OutputDevice, send_all};
-use ioa_request::{Code, is_set, read_bound, read_range, read_turns};
+use ioa_request::{Code, asks_seeds, is_set, read_bound, read_range, read_turns};
 use ioa_serving::{Failure, Status};
 use std::alloc::{AllocError, Global};
 
@@ -109,13 +109,14 @@ fn unasked_text(alloc: Global, matches: &ArgMatches<'_>) -> Result<String, Alloc
 }
 
 /// What is wrong with the words for a run, or for runs by many seeds.
-#[tactic(auto, using(crate::proofs::ToldUnasked::told_settings, crate::proofs::ToldUnasked::told_seeds))]
+#[tactic(auto, using(crate::proofs::ToldUnasked::told_settings, crate::proofs::ToldUnasked::told_missing, crate::proofs::ToldUnasked::told_seeds))]
 fn bad_run_text(alloc: Global, found: &ArgMatches<'_>) -> Result<String, AllocError>
     ensures { IfOk result (λ text. string_bytes text ≡ telling.bad_run_text (rows_of (found_of found.now))) }
 {
     let turns = found.get_str("turns");
     match found.get_str("seeds") {
         Some(word) => bad_seeds_text(alloc, word, turns),
+        None if asks_seeds(found) => missing_seeds_text(alloc),
         None => bad_settings_text(alloc, turns, found.get_str("seed"), found.get_str("words")),
     }
 }
@@ -189,6 +190,16 @@ fn bad_last_text(alloc: Global, to: Option<&str>) -> Result<String, AllocError>
         word,
         "--to <M>",
         "a whole number of 64 bits, no less than N",
+    )
+}
+
+/// That specifications are those of runs by many seeds, in the same manner.
+fn missing_seeds_text(alloc: Global) -> Result<String, AllocError>
+    ensures { IfOk result (λ text. string_bytes text ≡ telling.missing_seeds_text) }
+{
+    String::from_str(
+        alloc,
+        "error: the argument '--monitor <SPEC>' needs '--seeds <A..B>'\n\nFor more information, try '--help'.\n",
     )
 }
 

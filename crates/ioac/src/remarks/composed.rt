@@ -26,7 +26,7 @@ use crate::remarks::unseen_lines::line_of_unseen;
 use ioa_causes::composing::{line_of_refusal, missing_words, refused_words};
 use ioa_causes::words::general;
 use ioa_compile::Program;
-use ioa_request::{Code, Request};
+use ioa_request::{Code, Request, Seeds};
 use ioa_serving::{Failure, Store, is_object};
 use ioa_syntax::Refusal;
 use ioa_tree::Assembly;
@@ -126,8 +126,27 @@ fn asked_in(
     if let Request::Watch { compositions, .. } = asked {
         return watched_in(alloc, compositions, failure, placed);
     }
+    if let Request::Seeds(seeds) = asked {
+        return sown_in(alloc, seeds, failure, placed);
+    }
     let name = composition_of(asked);
     picked_in(alloc, failure, placed, name)
+}
+
+/// Where the composition of runs by many seeds is refused; or where that is not, the first of their specifications that is.
+fn sown_in(
+    alloc: Global,
+    seeds: &Seeds<'_>,
+    failure: &Failure,
+    placed: &Placed,
+) -> Result<Option<Said>, OutOfMemory>
+    ensures { IfOk result (λ found. IfSome found (λ said. (name : Option Name) × ((name ≡ option_copied seeds.now.run.composition) ⊎ ((x : Name) × Contains (texts seeds.now.monitors.now) x × (name ≡ Some x)))
+        × spec.IsRefusedAs placed.now.tokens.items placed.now.checked name failure.now said.line (string_bytes said.words))) }
+{
+    if let Some(said) = picked_in(alloc, failure, placed, seeds.run.composition)? {
+        return Ok(Some(said));
+    }
+    watched_in(alloc, seeds.monitors, failure, placed)
 }
 
 /// Where the first of these compositions is refused that is, by this failure.
@@ -266,7 +285,8 @@ fn composition_of<'a>(asked: &Request<'a>) -> Option<&'a str>
     }
 }
 
-/// The composition that a request names; of the specifications of a watch the first that is refused, or does something unseen.
+/// The composition that a request names; of the specifications of a watch, or of runs by many seeds of a composition that is not refused, the first that is
+/// refused, or does something unseen.
 fn composition_at_fault<'a>(
     alloc: Global,
     asked: &Request<'a>,
@@ -276,6 +296,12 @@ fn composition_at_fault<'a>(
 {
     if let Request::Watch { compositions, .. } = asked
         && let Some(name) = first_at_fault(alloc, compositions, bytes)?
+    {
+        return Ok(Some(name));
+    }
+    if let Request::Seeds(seeds) = asked
+        && program_in(alloc, bytes, seeds.run.composition)?.is_some()
+        && let Some(name) = first_at_fault(alloc, seeds.monitors, bytes)?
     {
         return Ok(Some(name));
     }

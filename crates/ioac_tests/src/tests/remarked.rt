@@ -91,6 +91,9 @@ check f | automaton A^signature internal a^transitions^  internal a^  internal a
 check f | automaton A^signature output a(k: Int)^transitions output a pre true |  | f:3: E9: no value is proposed for `k` of `a`: write `propose k := ..`^    transitions output a pre true^ | E9
 replay f | automaton A(n: Int)^signature internal a^transitions internal a^composition One components^  X: A(1);^  Y: A(true)^ |  | f:6: E12: A(n: Int) wants type Int for `n`, and what is given is of type Bool^      Y: A(true)^ | E12
 graph f --comp Two | automaton A^signature internal a^transitions internal a^composition One components X: A |  | f: E17: the source declares no composition `Two`: there is `One`^ | E17
+-- of runs by many seeds the composition, or else the first specification that is none
+run f --alone --seeds 1..2 --comp One --monitor One --monitor Nine | automaton A^signature output a^transitions output a^composition One components X: A^composition Two components X: A |  | f: E17: the source declares no composition `Nine`: there is `One`, `Two`^ | E17
+run f --alone --seeds 1..2 --comp Nine --monitor Ten | automaton A^signature output a^transitions output a^composition One components X: A |  | f: E17: the source declares no composition `Nine`: there is `One`^ | E17
 replay f | automaton A^signature internal a^transitions internal a^composition One components X: A | a^a(^ | list:2: L2: this line cannot be read: an action is written as `tick(5)`^    a(^ | L2
 -- the type that is wanted, the type that is found, and of which part
 check f | automaton A^signature internal a^states c: Int^transitions internal a eff c := c < 1 |  | f:4: E7: `c` is of type Int, and what begins with `c` is of type Bool^    transitions internal a eff c := c < 1^ | E7

@@ -126,8 +126,45 @@ const FAULTS: &str = "\
 --alone --turns 1 --log --reports |  |  | {\"act\":\"go\",\"who\":0}^{\"end\":\"fault 4 in component 1 at 0\"}^ | G: 0 committed, 0 idle, 0 stale, faulted^P: 0 committed, 1 idle, 0 stale, turns done^environment: 0 committed, 1 idle, 0 stale, turns done^ | 3
 --alone --turns 1 --seeds 0..1 |  |  | 0000000000000000000000000000000000000000000000000000000000000000 end: fault 4 in component 1 at 0^0000000000000000000000000000000000000000000000000000000000000001 end: fault 4 in component 1 at 0^seeds 2; done 0; fault 2^ |  | 3
 --alone --turns 0 --seeds 3..3 |  |  | 0000000000000000000000000000000000000000000000000000000000000003 end: done after 0^seeds 1; done 1; fault 0^ |  | 0
+-- the action that faults is not performed, and the specification is not asked of it
+--alone --turns 1 --seeds 3..3 --monitor Two |  |  | 0000000000000000000000000000000000000000000000000000000000000003 end: fault 4 in component 1 at 0; Two: ok^seeds 1; done 0; fault 1; Two: not accepted 0^ |  | 3
 --turns 1 |  |  | end: fault 4 in component 1 at 0^ |  | 3
 --turns 1 --log --reports |  |  | {\"act\":\"go\",\"who\":0}^{\"end\":\"fault 4 in component 1 at 0\"}^ | G: 0 committed, 0 idle, 0 stale, faulted^P: 0 committed, 1 idle, 0 stale, turns done^environment: 0 committed, 1 idle, 0 stale, turns done^ | 3
+";
+
+/// A component that ticks, and specifications of it: one that accepts each tick, one that accepts two, one in which each faults, and one of which not all
+/// is seen.
+const TICKS: &str = "\
+type S = seq 1 of Int \
+automaton Ticker signature output tick(n: Int) states k: Int transitions output tick pre n = k propose n := k eff k := k + 1 \
+automaton All signature input tick(n: Int) states x: Int transitions input tick eff x := n \
+automaton Two signature output tick(n: Int) states k: Int transitions output tick pre n < 2 propose n := k eff k := n \
+automaton Picks signature input tick(n: Int) states s: S; x: Int transitions input tick eff x := at(s, n) \
+automaton Hides signature input tick(n: Int); internal rest states x: Int transitions input tick eff x := n internal rest eff x := 0 \
+composition All components A: All \
+composition Two components T: Two \
+composition Picks components P: Picks \
+composition Hides components H: Hides \
+composition Ticks components T: Ticker";
+
+/// The same, of these.
+const MONITORED: &str = "\
+--alone --turns 3 --seeds 1..2 --monitor All |  |  | 0000000000000000000000000000000000000000000000000000000000000001 end: done after 3; All: ok^0000000000000000000000000000000000000000000000000000000000000002 end: done after 3; All: ok^seeds 2; done 2; fault 0; All: not accepted 0^ |  | 0
+--alone --turns 3 --seeds 7..7 --monitor Two --monitor All --monitor Picks |  |  | 0000000000000000000000000000000000000000000000000000000000000007 end: done after 3; Two: not enabled at 2; All: ok; Picks: fault 4 in component 0 at 0^seeds 1; done 1; fault 0; Two: not accepted 1; All: not accepted 0; Picks: not accepted 1^ |  | 4
+--alone --turns 2 --seeds 7..7 --monitor Two --comp Ticks --monitor Two |  |  | 0000000000000000000000000000000000000000000000000000000000000007 end: done after 2; Two: ok; Two: ok^seeds 1; done 1; fault 0; Two: not accepted 0; Two: not accepted 0^ |  | 0
+--alone --turns 0 --seeds 0..0 --monitor Picks |  |  | 0000000000000000000000000000000000000000000000000000000000000000 end: done after 0; Picks: ok^seeds 1; done 1; fault 0; Picks: not accepted 0^ |  | 0
+--alone --turns 3 --seeds 1..3 --monitor Two |  |  | 0000000000000000000000000000000000000000000000000000000000000001 end: done after 3; Two: not enabled at 2^0000000000000000000000000000000000000000000000000000000000000002 end: done after 3; Two: not enabled at 2^0000000000000000000000000000000000000000000000000000000000000003 end: done after 3; Two: not enabled at 2^seeds 3; done 3; fault 0; Two: not accepted 3^ |  | 4
+-- the composition of the run is looked for first, then the specifications in their order, and then the rest is read
+--alone --seeds 1..2 --monitor Nine |  |  |  | E17^ | 1
+--alone --seeds 1..2 --monitor All --monitor Hides --monitor Nine |  |  |  | L7^ | 4
+--alone --seeds 1..2 --comp Nine --monitor Hides |  |  |  | E17^ | 1
+--alone --seeds 1..2 --inputs q --monitor Hides |  |  |  | L7^ | 4
+--alone --seeds 1..2 --inputs q --monitor All |  |  |  | io^ | 5
+--alone --turns 100001 --seeds 1..2 --monitor All |  |  |  | N1^ | 2
+-- specifications are those of many seeds
+--alone --monitor All |  |  |  | error: the argument '--monitor <SPEC>' needs '--seeds <A..B>'^^For more information, try '--help'.^ | 2
+--monitor All --turns x |  |  |  | error: the argument '--monitor <SPEC>' needs '--seeds <A..B>'^^For more information, try '--help'.^ | 2
+--seeds 1..2 --monitor All |  |  |  | error: the argument '--seeds <A..B>' needs '--alone', and cannot be used with '--seed', '--words', '--resume', '--log' or '--reports'^^For more information, try '--help'.^ | 2
 ";
 
 /// A host that sums up a sequence each time that it tells the sum before.
@@ -260,6 +297,7 @@ fn runs_print_what_is_wanted(rt: HostRuntime) {
     expect_runs(&rt, rt.alloc(), COUNTS, COUNTER);
     expect_runs(&rt, rt.alloc(), FAULTS, FAULTY);
     expect_runs(&rt, rt.alloc(), LOOPS, FOLD);
+    expect_runs(&rt, rt.alloc(), MONITORED, TICKS);
 }
 
 /// What a run of the game prints by these words.

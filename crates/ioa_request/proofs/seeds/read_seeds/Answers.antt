@@ -12,5 +12,6 @@ pub returns-then-admits_seeds-clause-some : goal.returns-then-admits_seeds-claus
 returns-then-admits_seeds-clause-some c = record {
   run = c.in_ok-run.ensures.some;
   admitted = sym c.if-admits_seeds.ensures;
+  monitors = sym c.all_given-monitors.ensures;
   range = range_read c.args.found.now c.in_ok-word.word.now (c.in_ok-first.first, c.in_ok-first.last) c.in_ok-word.ensures c.in_ok-first.ensures;
 }

@@ -28,5 +28,5 @@ returns-then-has_memory-clause-ended c =
       streams = subst (λ (k : List ℕ). AreStreams k (length p.members) sources) c.numbered_key-key.ensures (subst (λ n. AreStreams c.numbered_key-key.result n sources) count c.in-Ok.ensures);
       alone = subst (λ (xs : List Action). IsAloneSince p before (map words_from sources) (map act_of xs) turns o) c.as_slice.ensures.value (c.in_ok-outcome.ensures.alone memory);
       begun = subst (λ (xs : List Action). RefusesResumed p (map act_of xs) turns before (Ok o)) c.as_slice.ensures.value c.in_ok-outcome.ensures.refused;
-      ends = refl;
+      is_log = refl;
     }

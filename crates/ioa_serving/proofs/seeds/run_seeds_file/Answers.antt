@@ -1,30 +1,48 @@
-use Rattle.std.proofs.Common.{◌∙◌, ℕ, List, ap, subst, take}
+use Rattle.std.proofs.Common.{◌∙◌, ℕ, List, ap, inl, length, subst, sym, take}
 use Rattle.std.specs.Io.KnownBytes.{Appends}
 use Rattle.std.proofs.lemmas.Result.{err_from_is_err_and}
 use Rattle.ioa_serving.specs.declared.failure.Failure.{Failure}
 use Rattle.ioa_log.specs.Failing.{HasFailed}
+use Rattle.ioa_serving.proofs.Kept.{keeps_same}
 use Rattle.ioa_serving.proofs.Refused.{err_so}
-use Rattle.ioa_serving.proofs.SeedsServed.{addable, cut_in_counts, served, uncounted, unserved}
+use Rattle.ioa_serving.proofs.SeedCuts.{lent_count}
+use Rattle.ioa_serving.proofs.SeedsServed.{addable, counted_all, cut_in_counts, names_count, served, uncounted, unserved}
 use Rattle.ioa_serving.proofs.seeds.run_seeds_file.Goals as goal
+
+pub returns-in_err-sown-clause-refused : goal.returns-in_err-sown-clause-refused
+returns-in_err-sown-clause-refused g c =
+    let e = err_from_is_err_and c.from_residual.result c.from_residual.ensures.1 in
+    err_so c.from_residual.result e.0 _ _ e.1 e.2 (inl (c.in_err-sown.ensures.refused, keeps_same (g.W.Write.contents c.args.output.now)))
+
+pub tell_runs-requires : goal.tell_runs-requires
+tell_runs-requires g c =
+    names_count (g.F.Store.holds c.args.store.now) (g.F.Store.lacks c.args.store.now) c.args.seeds.now c.in_ok-sown.sown c.in_ok-sown.ensures.sown (g.W.Write.contents c.args.output.now) (g.W.Write.contents c.args.output.now)
+    ∙ lent_count c.args.seeds.now.monitors.now
 
 pub returns-in_err-counts-clause-refused : goal.returns-in_err-counts-clause-refused
 returns-in_err-counts-clause-refused g c =
     let e = err_from_is_err_and c.from_residual-in_err-counts.result c.from_residual-in_err-counts.ensures.1 in
     err_so c.from_residual-in_err-counts.result e.0 _ _ e.1 e.2
-    (unserved (g.F.Store.holds c.args.store.now) (g.F.Store.lacks c.args.store.now) c.args.seeds.now c.in_ok-ready.ready c.in_ok-ready.ensures.ready (g.W.Write.contents c.args.output.now) (g.W.Write.contents c.tell_runs.new.output)
+    (unserved (g.F.Store.holds c.args.store.now) (g.F.Store.lacks c.args.store.now) c.args.seeds.now c.in_ok-sown.sown c.in_ok-sown.ensures.sown (g.W.Write.contents c.args.output.now) (g.W.Write.contents c.tell_runs.new.output)
     (HasFailed (g.W.Device.failure_count c.args.output.now) (g.W.Device.failure_count c.tell_runs.new.output)) c.in_err-counts.field-0.0 c.in_err-counts.ensures.refused)
 
-pub counts_text-requires : goal.counts_text-requires
-counts_text-requires g c =
+pub counts_text-requires-clause-sums : goal.counts_text-requires-clause-sums
+counts_text-requires-clause-sums g c =
     let told = c.in_ok-counts.ensures.told in
-    addable (g.F.Store.holds c.args.store.now) (g.F.Store.lacks c.args.store.now) c.args.seeds.now c.in_ok-ready.ready c.in_ok-ready.ensures.ready (g.W.Write.contents c.args.output.now) (g.W.Write.contents c.tell_runs.new.output) c.in_ok-counts.counts told.0 told.1
+    addable (g.F.Store.holds c.args.store.now) (g.F.Store.lacks c.args.store.now) c.args.seeds.now c.in_ok-sown.sown c.in_ok-sown.ensures.sown (g.W.Write.contents c.args.output.now) (g.W.Write.contents c.tell_runs.new.output) c.in_ok-counts.counts told.0 told.1
+
+pub counts_text-requires-clause-counted : goal.counts_text-requires-clause-counted
+counts_text-requires-clause-counted g c =
+    let told = c.in_ok-counts.ensures.told in
+    counted_all (g.F.Store.holds c.args.store.now) (g.F.Store.lacks c.args.store.now) c.args.seeds.now c.in_ok-sown.sown c.in_ok-sown.ensures.sown (g.W.Write.contents c.args.output.now) (g.W.Write.contents c.tell_runs.new.output) c.in_ok-counts.counts told.0 told.1
+    ∙ lent_count c.args.seeds.now.monitors.now
 
 pub returns-in_err-line-clause-refused : goal.returns-in_err-line-clause-refused
 returns-in_err-line-clause-refused g c =
     let e = err_from_is_err_and c.from_residual-in_err-line.result c.from_residual-in_err-line.ensures.1 in
     let told = c.in_ok-counts.ensures.told in
     err_so c.from_residual-in_err-line.result e.0 _ _ e.1 e.2
-    (uncounted (g.F.Store.holds c.args.store.now) (g.F.Store.lacks c.args.store.now) c.args.seeds.now c.in_ok-ready.ready c.in_ok-ready.ensures.ready (g.W.Write.contents c.args.output.now) (g.W.Write.contents c.tell_runs.new.output) c.in_ok-counts.counts told.0 told.1
+    (uncounted (g.F.Store.holds c.args.store.now) (g.F.Store.lacks c.args.store.now) c.args.seeds.now c.in_ok-sown.sown c.in_ok-sown.ensures.sown (g.W.Write.contents c.args.output.now) (g.W.Write.contents c.tell_runs.new.output) c.in_ok-counts.counts told.0 told.1
     (HasFailed (g.W.Device.failure_count c.args.output.now) (g.W.Device.failure_count c.tell_runs.new.output)))
 
 pub returns-in_err-send_all-clause-refused : goal.returns-in_err-send_all-clause-refused
@@ -32,7 +50,7 @@ returns-in_err-send_all-clause-refused g c =
     let e = err_from_is_err_and c.from_residual-in_err-send_all.result c.from_residual-in_err-send_all.ensures.1 in
     let told = c.in_ok-counts.ensures.told in
     err_so c.from_residual-in_err-send_all.result e.0 _ _ e.1 (e.2 ∙ ap Failure.List c.in_err-send_all.ensures.io.0)
-    (cut_in_counts (g.F.Store.holds c.args.store.now) (g.F.Store.lacks c.args.store.now) c.args.seeds.now c.in_ok-ready.ready c.in_ok-ready.ensures.ready (g.W.Write.contents c.args.output.now) (g.W.Write.contents c.tell_runs.new.output) c.in_ok-counts.counts told.0 told.1
+    (cut_in_counts (g.F.Store.holds c.args.store.now) (g.F.Store.lacks c.args.store.now) c.args.seeds.now c.in_ok-sown.sown c.in_ok-sown.ensures.sown (g.W.Write.contents c.args.output.now) (g.W.Write.contents c.tell_runs.new.output) c.in_ok-counts.counts told.0 told.1
     (HasFailed (g.W.Device.failure_count c.args.output.now) (g.W.Device.failure_count c.send_all.new.output)) (g.W.Write.contents c.send_all.new.output)
     (subst (λ n. HasFailed n (g.W.Device.failure_count c.send_all.new.output)) (c.in_ok-counts.ensures.passed (λ e. cc)) c.in_err-send_all.ensures.io.1)
     (subst (λ (t : List ℕ). (n : ℕ) × Appends (g.W.Write.contents c.tell_runs.new.output) (g.W.Write.contents c.send_all.new.output) (take n t)) (c.as_bytes.ensures.value ∙ c.in_ok-line.ensures)
@@ -41,7 +59,7 @@ returns-in_err-send_all-clause-refused g c =
 pub returns-clause-served : goal.returns-clause-served
 returns-clause-served g c =
     let told = c.in_ok-counts.ensures.told in (
-      served (g.F.Store.holds c.args.store.now) (g.F.Store.lacks c.args.store.now) c.args.seeds.now c.in_ok-ready.ready c.in_ok-ready.ensures.ready (g.W.Write.contents c.args.output.now) (g.W.Write.contents c.tell_runs.new.output) c.in_ok-counts.counts told.0 told.1
+      served (g.F.Store.holds c.args.store.now) (g.F.Store.lacks c.args.store.now) c.args.seeds.now c.in_ok-sown.sown c.in_ok-sown.ensures.sown (g.W.Write.contents c.args.output.now) (g.W.Write.contents c.tell_runs.new.output) c.in_ok-counts.counts told.0 told.1
           (g.W.Write.contents c.send_all.new.output) c.silent.result.status
           (subst (λ (t : List ℕ). Appends (g.W.Write.contents c.tell_runs.new.output) (g.W.Write.contents c.send_all.new.output) t) (c.as_bytes.ensures.value ∙ c.in_ok-line.ensures) c.in_ok-send_all.ensures.ok)
           (c.silent.ensures.status ∙ c.status.ensures),

@@ -1,0 +1,47 @@
+-- What runs by many seeds are given, and why nothing is.
+use Rattle.std.proofs.Common.{◌≡◌, ◌∙◌, ◌⊎◌, [], ◌∷◌, ℕ, List, Option, Some, false, inl, inr, refl, subst, sym}
+use Rattle.std.specs.List.{AllZip}
+use Rattle.std.specs.Option.{option_copied}
+use Rattle.ioa_value.specs.Actions.{Name}
+use Rattle.ioa_lex.specs.declared.refusal.Refusal.{Refusal}
+use Rattle.ioa_lex.specs.declared.refusal.Refusal.TheVariants as refusals
+use Rattle.ioa_tree.specs.Compositions.{picked}
+use Rattle.ioa_tree.specs.Hosts.{Hosted, IsHosted}
+use Rattle.ioa_tree.specs.Tree.{CompositionTree, SourceTree}
+use Rattle.ioa_tree.specs.WellFormed.{WellFormed}
+use Rattle.ioa_compose.specs.Refusals as composing
+use Rattle.ioa_compile.specs.Programs.{Prog}
+use Rattle.ioa_request.specs.declared.seeds.Seeds.{Seeds}
+use Rattle.ioa_serving.specs.declared.failure.Failure.{Failure}
+use Rattle.ioa_serving.specs.Alone.{IsUnrun}
+use Rattle.ioa_serving.specs.Failing.{IsRefusedGiven, IsRefusedNamed}
+use Rattle.ioa_serving.specs.Headline.{Spells, begins_object}
+use Rattle.ioa_serving.specs.SeedRuns.{IsSpecification}
+use Rattle.ioa_serving.specs.Seeds.{IsUnmonitored, monitors_of}
+use Rattle.ioa_serving.specs.Watching.{IsUnwatched, Specifies}
+use Rattle.ioa_serving.proofs.Refused.{declared}
+use Rattle.ioa_serving.proofs.Unrun.{ungiven}
+
+-- specifications of a checked source, said of its text
+pub specified : (text : List ℕ) (s : SourceTree) (names : List Name) (ps : List Prog) → begins_object text ≡ false → Spells text s → WellFormed s
+    → AllZip (Specifies s) names ps → AllZip (IsSpecification text) names ps
+specified text s [] [] source found well h = tt
+specified text s [] (p ∷ ps) source found well h = absurd h
+specified text s (name ∷ names) [] source found well h = absurd h
+specified text s (name ∷ names) (p ∷ ps) source found well h = (
+  (h.0.hosts, (source, declared text (Some name) s s h.0.tree h.0.hosts found refl well h.0.picks h.0.is_hosted), h.0.seen, h.0.runs),
+  specified text s names ps source found well h.1,
+)
+
+-- a composition that is refused
+pub refused_given : (text : List ℕ) (name : Option Name) (s : SourceTree) (r : Refusal) → begins_object text ≡ false → Spells text s → WellFormed s
+    → (r ≡ refusals.OutOfMemory) ⊎ IsRefusedNamed s name r → IsRefusedGiven text name (Failure.Refused r)
+refused_given text name s r source found well (inl k) = inl (source, inl k)
+refused_given text name s r source found well (inr k) = inl (source, inr (inr (inr (s, found, well, k))))
+
+-- nothing is run
+pub unprogrammed : (holds : Name → List ℕ → Type 0) (lacks : Name → Type 0) (s : Seeds) (text : List ℕ) (e : Failure) → holds s.run.file.now text
+    → IsRefusedGiven text (option_copied s.run.composition) e ⊎ ((monitors_of s ≡ [] → ⊥) × IsUnwatched text (monitors_of s) e)
+    → IsUnrun holds lacks s.run e ⊎ IsUnmonitored holds s e
+unprogrammed holds lacks s text e held (inl k) = inl (ungiven holds lacks s.run text e held k)
+unprogrammed holds lacks s text e held (inr k) = inr (k.0, (text, held, k.1))

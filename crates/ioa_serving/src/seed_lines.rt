@@ -1,0 +1,97 @@
+//! The lines in which runs by many seeds are told.
+
+ghost use Rattle.std.specs.Prelude.{◌≡◌, ◌++◌, ◌+◌, ◌<◌, ◌^◌, IfOk, OnOk, length, map, flat_map, option_map};
+ghost use Rattle.std.specs.List.{zip};
+ghost use Rattle.std.specs.String.{string_bytes};
+ghost use Rattle.ioa_system.specs.Outcomes.{ending_of};
+ghost use Rattle.ioa_request.specs.Pasted.{texts};
+ghost use Rattle.ioa_serving.specs.SeedRuns.{judged_of};
+ghost use Rattle.ioa_serving.specs.Seeds.{answer_behind, answers_behind, counts_line, refusals_behind, seed_line};
+
+use crate::judged::JudgedRun;
+use crate::seed_counts::Counts;
+use ioa_request::numbered_digits;
+use ioa_system::End;
+use ioa_value::OutOfMemory;
+use std::alloc::{AllocError, Global};
+use std::fmt::Write;
+
+/// The line of the run by the seed of this number, with the answers of the specifications of these names.
+pub fn seed_text(
+    alloc: Global,
+    names: &[&str],
+    number: u64,
+    judged: &JudgedRun,
+) -> Result<String, OutOfMemory>
+    requires { length judged.now.answers.items ≡ length names.now }
+    ensures { IfOk result (λ text. string_bytes text ≡ seed_line (texts names.now) number (judged_of judged.now)) }
+{
+    let digits = numbered_digits(alloc, number)?;
+    let end = judged.log.end.end();
+    let answers = answers_text(alloc, names, &judged.answers)?;
+    let mut text = String::new(alloc);
+    writeln!(text, "{digits} end: {end}{answers}")?;
+    Ok(text)
+}
+
+/// What the specifications of these names answer.
+fn answers_text(
+    alloc: Global,
+    names: &[&str],
+    answers: &[Option<End>],
+) -> Result<String, AllocError>
+    requires { length answers.now ≡ length names.now }
+    ensures { IfOk result (λ text. string_bytes text ≡ answers_behind (texts names.now) (map (option_map ending_of) answers.now)) }
+{
+    let mut text = String::new(alloc);
+    for place in 0..names.len() {
+        push_answer(&mut text, names[place], answers[place])?;
+    }
+    Ok(text)
+}
+
+/// Puts what the specification of this name answers.
+fn push_answer(text: &mut String, name: &str, answer: Option<End>) -> Result<(), AllocError>
+    ensures { OnOk result (string_bytes text.new ≡ string_bytes text.old ++ answer_behind (name.now, option_map ending_of answer)) }
+{
+    match answer {
+        None => write!(text, "; {name}: ok")?,
+        Some(end) => write!(text, "; {name}: {end}")?,
+    }
+    Ok(())
+}
+
+/// The line with the counts, for specifications of these names.
+pub fn counts_text(alloc: Global, names: &[&str], counts: &Counts) -> Result<String, OutOfMemory>
+    requires sums { counts.now.done + counts.now.fault < 2 ^ 128 }
+    requires counted { length counts.now.refusals.items ≡ length names.now }
+    ensures { IfOk result (λ text. string_bytes text ≡ counts_line (texts names.now) counts.now.done counts.now.fault counts.now.refusals.items) }
+{
+    let refusals = refusals_text(alloc, names, &counts.refusals)?;
+    let seeds = counts.done + counts.fault;
+    let done = counts.done;
+    let fault = counts.fault;
+    let mut text = String::new(alloc);
+    writeln!(text, "seeds {seeds}; done {done}; fault {fault}{refusals}")?;
+    Ok(text)
+}
+
+/// How many runs the specifications of these names do not accept.
+fn refusals_text(alloc: Global, names: &[&str], counts: &[u128]) -> Result<String, AllocError>
+    requires { length counts.now ≡ length names.now }
+    ensures { IfOk result (λ text. string_bytes text ≡ flat_map refusals_behind (zip (texts names.now) counts.now)) }
+{
+    let mut text = String::new(alloc);
+    for place in 0..names.len() {
+        push_refusals(&mut text, names[place], counts[place])?;
+    }
+    Ok(text)
+}
+
+/// Puts how many runs the specification of this name does not accept.
+fn push_refusals(text: &mut String, name: &str, count: u128) -> Result<(), AllocError>
+    ensures { OnOk result (string_bytes text.new ≡ string_bytes text.old ++ refusals_behind (name.now, count)) }
+{
+    write!(text, "; {name}: not accepted {count}")?;
+    Ok(())
+}
