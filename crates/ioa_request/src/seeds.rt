@@ -50,7 +50,7 @@ pub fn read_seeds<'m>(found: &'m ArgMatches<'_>) -> Option<Seeds<'m>>
 }
 
 /// The values of an option that may stand several times, or not at all.
-fn all_given<'a>(found: &'a ArgMatches<'a>, option: &str) -> &'a [&'a str]
+fn all_given<'m>(found: &'m ArgMatches<'_>, option: &str) -> &'m [&'m str]
     ensures { texts result.now ≡ asked.all_given option.now (rows_of (found_of found.now)) }
 {
     found.get_strs(option).unwrap_or(&[])

@@ -45,25 +45,31 @@ const ACTIONS: [(&str, Option<&str>); 17] = [
 
 // Whether the text spells the action that is printed so, or no action.
 fn is_printed_so(
+    rt: &impl Abort,
     alloc: Global,
     types: &Types,
     text: &str,
     wanted: Option<&str>,
-) -> Result<bool, OutOfMemory> {
-    match read_action(alloc, types, text.as_bytes())? {
+) -> bool {
+    match read_action(alloc, types, text.as_bytes()).expect(rt, "memory") {
         Some(action) => {
-            let copy = action.try_copy(alloc)?;
-            let printed = print_action(alloc, types, &copy)?;
-            Ok(wanted == Some(printed.as_str()))
+            let printed = printed_copy(rt, alloc, types, &action);
+            wanted == Some(printed.as_str())
         }
-        None => Ok(wanted.is_none()),
+        None => wanted.is_none(),
     }
+}
+
+/// An equal of the action, as it is printed.
+fn printed_copy(rt: &impl Abort, alloc: Global, types: &Types, action: &Action) -> String {
+    let copy = action.try_copy(alloc).expect(rt, "memory");
+    print_action(alloc, types, &copy).expect(rt, "memory")
 }
 
 fn expect_printed(rt: &impl Abort, alloc: Global, rows: &[(&str, Option<&str>)]) {
     let types = basic(alloc).expect(rt, "memory");
     for (text, wanted) in rows {
-        let is_so = is_printed_so(alloc, &types, text, *wanted).expect(rt, "memory");
+        let is_so = is_printed_so(rt, alloc, &types, text, *wanted);
         assert!(rt; is_so, "{text}");
     }
 }
@@ -117,11 +123,11 @@ fn prints_what_is_parsed(rt: HostRuntime) {
 }
 
 /// The first number, and the first truth value.
-fn first_values(alloc: Global) -> Result<(Value, Value), OutOfMemory> {
-    let types = basic(alloc)?;
-    let zero = first(alloc, &types, Ty::INT)?;
-    let no = first(alloc, &types, Ty::BOOL)?;
-    Ok((zero, no))
+fn first_values(rt: &impl Abort, alloc: Global) -> (Value, Value) {
+    let types = basic(alloc).expect(rt, "memory");
+    let zero = first(alloc, &types, Ty::INT).expect(rt, "memory");
+    let no = first(alloc, &types, Ty::BOOL).expect(rt, "memory");
+    (zero, no)
 }
 
 // The value is the one that is wanted, of this type, and not of the other.
@@ -133,7 +139,7 @@ fn expect_value(rt: &impl Abort, alloc: Global, value: &Value, wanted: &Value, t
 
 #[test]
 fn types_have_first_values(rt: HostRuntime) {
-    let (zero, no) = first_values(rt.alloc()).expect(&rt, "memory");
+    let (zero, no) = first_values(&rt, rt.alloc());
     expect_value(&rt, rt.alloc(), &zero, &Value::Num(0), Ty::INT, Ty::BOOL);
     expect_value(
         &rt,
@@ -159,28 +165,29 @@ fn lent(alloc: Global, system: &System<'_>, action: &Action) -> Result<Vec<NodeS
 }
 
 /// What a step answers on equals of the participants' states, without the new states.
-fn step_on_copies(
-    alloc: Global,
-    system: &System<'_>,
-    action: &Action,
-) -> Result<Step, OutOfMemory> {
-    let states = lent(alloc, system, action)?;
-    Ok(match step_from(alloc, system.program(), action, &states)? {
+fn step_on_copies(rt: &impl Abort, alloc: Global, system: &System<'_>, action: &Action) -> Step {
+    let states = lent(alloc, system, action).expect(rt, "memory");
+    let moved = step_from(alloc, system.program(), action, &states).expect(rt, "memory");
+    answered(&moved)
+}
+
+/// The answer without the new states.
+fn answered(moved: &Moved) -> Step {
+    match moved {
         Moved::Next(_) => Step::Next,
         Moved::NotAnAction => Step::NotAnAction,
         Moved::NotEnabled => Step::NotEnabled,
-        Moved::Fault(component, fault) => Step::Fault(component, fault),
-    })
+        Moved::Fault(component, fault) => Step::Fault(*component, *fault),
+    }
 }
 
 /// The number that is the first variable of the first component.
-fn number_in(alloc: Global, system: &System<'_>) -> Result<Option<i64>, OutOfMemory> {
-    let Some(state) = system.states().first() else {
-        return Ok(None);
-    };
-    match state_values(alloc, state)?.first() {
-        Some(Value::Num(number)) => Ok(Some(*number)),
-        _ => Ok(None),
+fn number_in(rt: &impl Abort, alloc: Global, system: &System<'_>) -> Option<i64> {
+    let state = system.states().first().expect(rt, "a component");
+    let values = state_values(alloc, state).expect(rt, "memory");
+    match values.first() {
+        Some(Value::Num(number)) => Some(*number),
+        _ => None,
     }
 }
 
@@ -202,10 +209,10 @@ fn expect_step(
     wanted: &Step,
     count: i64,
 ) {
-    let on_copies = step_on_copies(alloc, system, action).expect(rt, "memory");
+    let on_copies = step_on_copies(rt, alloc, system, action);
     assert!(rt; on_copies == *wanted);
     assert!(rt; system.step(action).expect(rt, "memory") == *wanted);
-    let number = number_in(alloc, system).expect(rt, "memory");
+    let number = number_in(rt, alloc, system);
     assert!(rt; number == Some(count), "{count}");
 }
 
@@ -225,15 +232,16 @@ fn steps_a_program(rt: HostRuntime) {
 
 /// What the next step answers from the states that these actions reach, and the number then.
 fn going_on(
+    rt: &impl Abort,
     alloc: Global,
     program: &Program,
     actions: &[Action],
     next: &Action,
-) -> Result<(Step, Option<i64>), OutOfMemory> {
-    let run = run_list(alloc, program, actions)?;
+) -> (Step, Option<i64>) {
+    let run = run_list(alloc, program, actions).expect(rt, "memory");
     let mut system = System::of(alloc, program, run.states);
-    let answer = system.step(next)?;
-    Ok((answer, number_in(alloc, &system)?))
+    let answer = system.step(next).expect(rt, "memory");
+    (answer, number_in(rt, alloc, &system))
 }
 
 #[test]
@@ -241,7 +249,7 @@ fn a_system_goes_on_from_states(rt: HostRuntime) {
     let program = program(&rt, rt.alloc(), COUNTER, Some("One"));
     let first = action(&rt, rt.alloc(), program.types(), "tick(5)");
     let second = action(&rt, rt.alloc(), program.types(), "tick(6)");
-    let (answer, number) = going_on(rt.alloc(), &program, &[first], &second).expect(&rt, "memory");
+    let (answer, number) = going_on(&rt, rt.alloc(), &program, &[first], &second);
     assert!(rt; answer == Step::Next);
     assert!(rt; number == Some(7));
 }

@@ -21,7 +21,7 @@ fn the_window_moves(rt: HostRuntime) {
     let program = program(&rt, rt.alloc(), library, Some("Sliding"));
     let run = run_of(&rt, rt.alloc(), &program, SLID);
     let sender = run.states.first().expect(&rt, "a sender");
-    let told = told_state(rt.alloc(), program.types(), sender).expect(&rt, "memory");
+    let told = told_state(&rt, rt.alloc(), program.types(), sender);
     assert!(rt; told.as_str() == ", state(Ints[8], 2, 1)", "{told}");
 }
 

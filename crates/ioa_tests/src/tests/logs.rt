@@ -131,29 +131,90 @@ fn called<W: OutputDevice>(
     output: &mut W,
 ) -> Result<(), LogErr> {
     match call {
-        Call::ReplayList => {
-            replay_list(alloc, program, input, output)?;
-        }
-        Call::ReplayLog => {
-            replay_log(alloc, program, input, output)?;
-        }
-        Call::LogList => {
-            log_list(alloc, program, input, output)?;
-        }
-        Call::Monitor => {
-            if !hides_actions(program) {
-                monitor_log(alloc, program, input)?;
-            }
-        }
-        Call::Entries => {
-            write_entries(alloc, program, input, &mut Workers::none(alloc))?;
-        }
-        Call::Read => {
-            read_log(alloc, program.types(), input)?;
-        }
-        Call::Write => write_log(alloc, program.types(), log, output)?,
+        Call::ReplayList => list_replayed(alloc, program, input, output),
+        Call::ReplayLog => log_replayed(alloc, program, input, output),
+        Call::LogList => list_logged(alloc, program, input, output),
+        Call::Monitor => monitored(alloc, program, input),
+        Call::Entries => entries_written(alloc, program, input),
+        Call::Read => log_read(alloc, program, input),
+        Call::Write => write_log(alloc, program.types(), log, output),
     }
-    Ok(())
+}
+
+// Each call stands alone: what its contract says is then no burden on the others.
+
+fn list_replayed<W: OutputDevice>(
+    alloc: Global,
+    program: &Program,
+    input: &mut Counted<Dripping<'_>>,
+    output: &mut W,
+) -> Result<(), LogErr> {
+    match replay_list(alloc, program, input, output) {
+        Ok(_) => Ok(()),
+        Err(error) => Err(error),
+    }
+}
+
+fn log_replayed<W: OutputDevice>(
+    alloc: Global,
+    program: &Program,
+    input: &mut Counted<Dripping<'_>>,
+    output: &mut W,
+) -> Result<(), LogErr> {
+    match replay_log(alloc, program, input, output) {
+        Ok(_) => Ok(()),
+        Err(error) => Err(error),
+    }
+}
+
+fn list_logged<W: OutputDevice>(
+    alloc: Global,
+    program: &Program,
+    input: &mut Counted<Dripping<'_>>,
+    output: &mut W,
+) -> Result<(), LogErr> {
+    match log_list(alloc, program, input, output) {
+        Ok(_) => Ok(()),
+        Err(error) => Err(error),
+    }
+}
+
+/// By a program that hides nothing: nothing is called of another one.
+fn monitored(
+    alloc: Global,
+    program: &Program,
+    input: &mut Counted<Dripping<'_>>,
+) -> Result<(), LogErr> {
+    if hides_actions(program) {
+        return Ok(());
+    }
+    match monitor_log(alloc, program, input) {
+        Ok(_) => Ok(()),
+        Err(error) => Err(error),
+    }
+}
+
+fn entries_written(
+    alloc: Global,
+    program: &Program,
+    input: &mut Counted<Dripping<'_>>,
+) -> Result<(), LogErr> {
+    let mut workers = Workers::none(alloc);
+    match write_entries(alloc, program, input, &mut workers) {
+        Ok(_) => Ok(()),
+        Err(error) => Err(error),
+    }
+}
+
+fn log_read(
+    alloc: Global,
+    program: &Program,
+    input: &mut Counted<Dripping<'_>>,
+) -> Result<(), LogErr> {
+    match read_log(alloc, program.types(), input) {
+        Ok(_) => Ok(()),
+        Err(error) => Err(error),
+    }
 }
 
 /// What comes of a call: its answer, how many calls of its reader failed and how many of its writer, and what is written.
@@ -164,27 +225,53 @@ struct Ended {
     written: Vec<u8>,
 }
 
-/// What comes of the call on devices that take one byte a call, and fail in this way after so many.
-fn tried(
+/// A call of the program, or of the log, with what it reads and what it writes, on devices that fail in this way.
+#[derive(Drop)]
+struct Trial<'a> {
     alloc: Global,
+    program: &'a Program,
+    log: &'a Log,
     call: Call,
-    program: &Program,
-    log: &Log,
-    given: &[u8],
-    calls: (u64, u64),
+    given: &'a [u8],
+    written: &'a [u8],
     kind: ErrorKind,
-) -> Ended {
+}
+
+impl Trial<'_> {
+    /// How often its reader is called: a device that is read to its end is asked once more.
+    fn reads(&self) -> u64 {
+        match self.given.len() as u64 {
+            0 => 0,
+            bytes => bytes.saturating_add(1),
+        }
+    }
+
+    /// How often its writer is called.
+    fn writes(&self) -> u64 {
+        self.written.len() as u64
+    }
+}
+
+/// What comes of the call on devices that take one byte a call, and fail after so many.
+fn tried(trial: &Trial<'_>, calls: (u64, u64)) -> Ended {
     let mut input = Counted::new(Dripping {
-        bytes: given,
+        bytes: trial.given,
         left: calls.0,
-        kind,
+        kind: trial.kind,
     });
     let mut output = Counted::new(Slow {
-        held: Vec::new(alloc),
+        held: Vec::new(trial.alloc),
         left: calls.1,
-        kind,
+        kind: trial.kind,
     });
-    let answer = called(alloc, call, program, log, &mut input, &mut output);
+    let answer = called(
+        trial.alloc,
+        trial.call,
+        trial.program,
+        trial.log,
+        &mut input,
+        &mut output,
+    );
     Ended {
         answer,
         failures: (input.failures(), output.failures()),
@@ -193,23 +280,22 @@ fn tried(
 }
 
 /// Whether the call fails once where there is room for so many bytes, which are not enough, so that a write takes none.
-fn fills(
-    rt: &impl Abort,
-    alloc: Global,
-    call: Call,
-    program: &Program,
-    log: &Log,
-    given: &[u8],
-    room: usize,
-) -> bool {
-    let mut held = vec![in alloc; 0u8; room].expect(rt, "memory");
+fn fills(rt: &impl Abort, trial: &Trial<'_>, room: usize) -> bool {
+    let mut held = vec![in trial.alloc; 0u8; room].expect(rt, "memory");
     let mut input = Counted::new(Dripping {
-        bytes: given,
+        bytes: trial.given,
         left: u64::MAX,
         kind: ErrorKind::Other,
     });
     let mut output = Counted::new(held.as_mut_slice());
-    let answer = called(alloc, call, program, log, &mut input, &mut output);
+    let answer = called(
+        trial.alloc,
+        trial.call,
+        trial.program,
+        trial.log,
+        &mut input,
+        &mut output,
+    );
     answer == Err(LogErr::Io) && output.failures() == 1 && input.failures() == 0
 }
 
@@ -221,49 +307,71 @@ fn is_failed(ended: &Ended, failures: (u64, u64), bytes: u64, whole: &[u8]) -> b
         && whole.starts_with(ended.written.as_slice())
 }
 
+/// The call fails at a call of its reader after so many, and has written nothing.
+fn expect_no_read(rt: &impl Abort, trial: &Trial<'_>, left: u64) {
+    let ended = tried(trial, (left, trial.writes()));
+    let is_failed = is_failed(&ended, (1, 0), 0, trial.written);
+    assert!(rt; is_failed, "{:?} after {left} reads", trial.call);
+}
+
+/// The call fails at a call of its writer after so many, and has written what was taken before.
+fn expect_no_write(rt: &impl Abort, trial: &Trial<'_>, left: u64) {
+    let ended = tried(trial, (trial.reads(), left));
+    let is_failed = is_failed(&ended, (0, 1), left, trial.written);
+    assert!(rt; is_failed, "{:?} after {left} writes", trial.call);
+}
+
+/// The call passes on devices that would fail at the next call, and no such call is made.
+fn expect_enough(rt: &impl Abort, trial: &Trial<'_>) {
+    let ended = tried(trial, (trial.reads(), trial.writes()));
+    let is_passed = ended.answer == Ok(()) && ended.failures == (0, 0);
+    assert!(rt; is_passed, "{:?}", trial.call);
+    let is_written = ended.written.as_slice() == trial.written;
+    assert!(rt; is_written, "{:?}", trial.call);
+}
+
 /// The call fails where a call of a device does, which is made once; what is written is then nothing, or what was taken before. On devices
-/// that would fail at the next call it passes, and no such call is made. Each of their calls fails in turn, or each sixteenth.
-fn expect_failures(
-    rt: &impl Abort,
+/// that would fail at the next call it passes. Each of their calls fails in turn, or each sixteenth.
+fn expect_failures(rt: &impl Abort, trial: &Trial<'_>, is_each: bool) {
+    for left in 0..trial.reads() {
+        if is_each || left % 16 == 0 {
+            expect_no_read(rt, trial, left);
+        }
+    }
+    for left in 0..trial.writes() {
+        if is_each || left % 16 == 0 {
+            expect_no_write(rt, trial, left);
+        }
+    }
+    expect_enough(rt, trial);
+}
+
+/// The call fails where there is room for less than it writes.
+fn expect_full(rt: &impl Abort, trial: &Trial<'_>) {
+    for room in 0..trial.written.len() {
+        let is_full = fills(rt, trial, room);
+        assert!(rt; is_full, "{:?} with {room} bytes of room", trial.call);
+    }
+}
+
+/// The call on devices that fail in this way.
+fn failing<'a>(
     alloc: Global,
-    program: &Program,
-    log: &Log,
-    row: (Call, &str, &str),
+    program: &'a Program,
+    log: &'a Log,
+    row: (Call, &'static str, &'static str),
     kind: ErrorKind,
-    is_each: bool,
-) {
+) -> Trial<'a> {
     let (call, given, written) = row;
-    let (given, written) = (given.as_bytes(), written.as_bytes());
-    // (a device that is read to its end is asked once more)
-    let reads = match given.len() as u64 {
-        0 => 0,
-        bytes => bytes.saturating_add(1),
-    };
-    let writes = written.len() as u64;
-    for left in 0..reads {
-        if is_each || left % 16 == 0 {
-            let ended = tried(alloc, call, program, log, given, (left, writes), kind);
-            assert!(rt;
-                is_failed(&ended, (1, 0), 0, written),
-                "{call:?} after {left} reads"
-            );
-        }
+    Trial {
+        alloc,
+        program,
+        log,
+        call,
+        given: given.as_bytes(),
+        written: written.as_bytes(),
+        kind,
     }
-    for left in 0..writes {
-        if is_each || left % 16 == 0 {
-            let ended = tried(alloc, call, program, log, given, (reads, left), kind);
-            assert!(rt;
-                is_failed(&ended, (0, 1), left, written),
-                "{call:?} after {left} writes"
-            );
-        }
-    }
-    let ended = tried(alloc, call, program, log, given, (reads, writes), kind);
-    assert!(rt;
-        ended.answer == Ok(()) && ended.failures == (0, 0),
-        "{call:?}"
-    );
-    assert!(rt; ended.written.as_slice() == written, "{call:?}");
 }
 
 #[test]
@@ -272,14 +380,10 @@ fn calls_fail_with_their_devices(rt: HostRuntime) {
     let program = program(&rt, alloc, COUNTER, None);
     let log = log(&rt, alloc, program.types(), TICKED);
     for row in CALLS {
-        let (call, given, written) = row;
-        for room in 0..written.len() {
-            let is_full = fills(&rt, alloc, call, &program, &log, given.as_bytes(), room);
-            assert!(rt; is_full, "{call:?} with {room} bytes of room");
-        }
+        expect_full(&rt, &failing(alloc, &program, &log, row, ErrorKind::Other));
         for kind in KINDS {
             let is_each = kind == ErrorKind::Interrupted;
-            expect_failures(&rt, alloc, &program, &log, row, kind, is_each);
+            expect_failures(&rt, &failing(alloc, &program, &log, row, kind), is_each);
         }
     }
 }

@@ -5,7 +5,7 @@ use ioa_compile::Program;
 use ioa_node::{NodeState, state_values};
 use ioa_rows::COUNTER;
 use ioa_system::{End, Participation, Run, is_external, owner, participants, run_list};
-use ioa_value::{Action, Fault, OutOfMemory, Types, print_action, read_list};
+use ioa_value::{Action, Fault, Types, print_action, read_list};
 use std::alloc::Global;
 use std::process::Abort;
 
@@ -92,25 +92,22 @@ const RUNS: [(&str, &str, &str); 10] = [
 ];
 
 /// The values of a state, told as those of an action.
-pub fn told_state(alloc: Global, types: &Types, state: &NodeState) -> Result<String, OutOfMemory> {
+pub fn told_state(rt: &impl Abort, alloc: Global, types: &Types, state: &NodeState) -> String {
     let values = Action {
-        name: String::from_str(alloc, ", state")?,
-        vals: state_values(alloc, state)?,
+        name: String::from_str(alloc, ", state").expect(rt, "memory"),
+        vals: state_values(alloc, state).expect(rt, "memory"),
     };
-    print_action(alloc, types, &values)
+    print_action(alloc, types, &values).expect(rt, "memory")
 }
 
 /// The values of these states.
-pub fn told_states(
-    alloc: Global,
-    types: &Types,
-    states: &[NodeState],
-) -> Result<String, OutOfMemory> {
+pub fn told_states(rt: &impl Abort, alloc: Global, types: &Types, states: &[NodeState]) -> String {
     let mut text = String::new(alloc);
     for state in states {
-        text.push_str(told_state(alloc, types, state)?.as_str())?;
+        let told = told_state(rt, alloc, types, state);
+        text.push_str(told.as_str()).expect(rt, "memory");
     }
-    Ok(text)
+    text
 }
 
 /// The run of the list that is spelled so.
@@ -123,7 +120,7 @@ pub fn run_of(rt: &impl Abort, alloc: Global, program: &Program, list: &str) -> 
 fn reached(rt: &impl Abort, alloc: Global, source: &str, list: &str) -> String {
     let program = program(rt, alloc, source, None);
     let run = run_of(rt, alloc, &program, list);
-    let states = told_states(alloc, program.types(), &run.states).expect(rt, "memory");
+    let states = told_states(rt, alloc, program.types(), &run.states);
     let Run {
         performed,
         end,

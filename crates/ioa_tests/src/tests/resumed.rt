@@ -14,7 +14,7 @@ use ioa_run::{
     run_threads,
 };
 use ioa_system::{Log, LogEntry};
-use ioa_value::{Action, OutOfMemory};
+use ioa_value::Action;
 use std::alloc::{AllocError, Global};
 use std::process::Abort;
 use std::sync::Wait;
@@ -274,18 +274,51 @@ fn is_refused(answer: Result<Outcome, RunErr>, error: RunErr) -> bool {
     }
 }
 
+/// No run goes on from there, alone or on threads.
+fn expect_refused<H: Abort + Threads + Wait + Sync>(rt: &H, alloc: Global, row: &Refused) {
+    let (source, text, turns, inputs, error) = *row;
+    let program = made::program(rt, alloc, source, None);
+    let log = made::log(rt, alloc, program.types(), text);
+    let script = script(rt, alloc, program.types(), inputs);
+    let answer = alone(rt, alloc, &program, &log, turns, &script);
+    assert!(rt; is_refused(answer, error), "{text}");
+    let answer = on_threads(rt, alloc, &program, &log, turns, &script);
+    assert!(rt; is_refused(answer, error), "{text}");
+}
+
 #[test]
 fn other_logs_are_refused(rt: HostRuntime) {
-    let alloc = rt.alloc();
-    for (source, text, turns, inputs, error) in &REFUSED {
-        let program = made::program(&rt, alloc, source, None);
-        let log = made::log(&rt, alloc, program.types(), text);
-        let script = script(&rt, alloc, program.types(), inputs);
-        let answer = alone(&rt, alloc, &program, &log, *turns, &script);
-        assert!(rt; is_refused(answer, *error), "{text}");
-        let answer = on_threads(&rt, alloc, &program, &log, *turns, &script);
-        assert!(rt; is_refused(answer, *error), "{text}");
+    for row in &REFUSED {
+        expect_refused(&rt, rt.alloc(), row);
     }
+}
+
+/// The run of a turn that goes on from the log, alone or on threads.
+fn gone_on<H: Abort + Threads + Wait + Sync>(
+    rt: &H,
+    alloc: Global,
+    program: &Program,
+    log: &Log,
+    is_alone: bool,
+) -> Outcome {
+    let answer = if is_alone {
+        alone(rt, alloc, program, log, 1, &[])
+    } else {
+        on_threads(rt, alloc, program, log, 1, &[])
+    };
+    answer.expect(rt, "a run")
+}
+
+/// The counter ticked once more, and what is told of the run ends so.
+fn expect_tick(rt: &impl Abort, alloc: Global, program: &Program, outcome: &Outcome, wanted: &str) {
+    let given = told_outcome(rt, alloc, program.types(), outcome);
+    assert!(rt; given.as_str().ends_with(wanted), "{given}");
+    let reports = told_reports(rt, alloc, &outcome.reports);
+    assert!(rt;
+        reports.as_str()
+            == "1 committed, 0 idle, 0 stale, TurnsDone; 0 committed, 1 idle, 0 stale, TurnsDone",
+        "{reports}"
+    );
 }
 
 /// Goes on ten times for a turn, alone and on threads in turn.
@@ -295,28 +328,18 @@ fn a_run_goes_on_ten_times(rt: HostRuntime) {
     let program = made::program(&rt, alloc, COUNTER, None);
     let mut log = made::log(&rt, alloc, program.types(), EMPTY);
     for turn in 0..10 {
-        let answer = if turn % 2 == 0 {
-            alone(&rt, alloc, &program, &log, 1, &[])
-        } else {
-            on_threads(&rt, alloc, &program, &log, 1, &[])
-        };
-        let outcome = answer.expect(&rt, "a run");
-        let given = told_outcome(&rt, alloc, program.types(), &outcome);
+        let outcome = gone_on(&rt, alloc, &program, &log, turn % 2 == 0);
         let wanted = format!(in alloc; "state({}), done after {}", 6 + turn, 1 + turn);
-        assert!(rt;
-            given
-                .as_str()
-                .ends_with(wanted.expect(&rt, "memory").as_str()),
-            "{given}"
-        );
-        let reports = told_reports(&rt, alloc, &outcome.reports);
-        assert!(rt;
-            reports.as_str()
-                == "1 committed, 0 idle, 0 stale, TurnsDone; 0 committed, 1 idle, 0 stale, TurnsDone",
-            "{reports}"
-        );
+        let wanted = wanted.expect(&rt, "memory");
+        expect_tick(&rt, alloc, &program, &outcome, wanted.as_str());
         log = log_of(outcome);
     }
+}
+
+/// The first two entries.
+fn first_two<'a>(rt: &impl Abort, entries: &'a [LogEntry]) -> &'a [LogEntry] {
+    assert!(rt; entries.len() > 2);
+    &entries[..2]
 }
 
 /// A room knows what was done before it.
@@ -330,7 +353,7 @@ fn a_room_goes_on_from_a_log(rt: HostRuntime) {
     assert!(rt; board.history().len() == 3 && board.recorded().is_none());
     let room = Room::resume(alloc, &program, &log, &[], 1).expect(&rt, "a room");
     assert!(rt; room.is_of(&program, &[], 1, &log.entries));
-    assert!(rt; !room.is_of(&program, &[], 1, &log.entries[..2]));
+    assert!(rt; !room.is_of(&program, &[], 1, first_two(&rt, &log.entries)));
     assert!(rt; !room.is_of(&program, &[], 1, &other.entries));
     assert!(rt; !room.is_of(&program, &[], 1, &[]));
     let fresh = Room::start(alloc, &program, &[], 1).expect(&rt, "memory");
@@ -338,12 +361,13 @@ fn a_room_goes_on_from_a_log(rt: HostRuntime) {
 }
 
 /// The actions of the log.
-fn actions(alloc: Global, entries: &[LogEntry]) -> Result<Vec<Action>, OutOfMemory> {
+fn actions(rt: &impl Abort, alloc: Global, entries: &[LogEntry]) -> Vec<Action> {
     let mut actions = Vec::new(alloc);
     for entry in entries {
-        actions.push(entry.action.try_copy(alloc)?)?;
+        let action = entry.action.try_copy(alloc).expect(rt, "memory");
+        actions.push(action).expect(rt, "memory");
     }
-    Ok(actions)
+    actions
 }
 
 /// Stenning's protocol goes on, and the whole log is accepted.
@@ -360,7 +384,7 @@ fn the_protocol_goes_on(rt: HostRuntime) {
     assert!(rt; whole.entries.len() > log.entries.len());
     replay(alloc, &program, &whole).expect(&rt, "a log of the program");
     let fifo = made::program(&rt, alloc, library, Some("ReliableFifo"));
-    let actions = actions(alloc, &whole.entries).expect(&rt, "memory");
+    let actions = actions(&rt, alloc, &whole.entries);
     monitor(alloc, &fifo, &actions).expect(&rt, "an accepted log");
 }
 
@@ -371,11 +395,27 @@ fn a_run_goes_on_from_nothing(rt: HostRuntime) {
     let library = str::from_utf8(ioa_links::text()).expect(&rt, "a text");
     let program = made::program(&rt, alloc, library, Some("AltBit"));
     let log = made::log(&rt, alloc, program.types(), EMPTY);
-    let words = seeded(alloc, program.members().len()).expect(&rt, "memory");
-    let first = run_alone(alloc, &program, 100, words, &[]).expect(&rt, "a run");
+    let first = begun(&rt, alloc, &program, 100);
     let second = alone(&rt, alloc, &program, &log, 100, &[]).expect(&rt, "a run");
-    let told = told_outcome(&rt, alloc, program.types(), &first);
-    assert!(rt; told.as_str() == told_outcome(&rt, alloc, program.types(), &second).as_str());
-    let reports = told_reports(&rt, alloc, &first.reports);
-    assert!(rt; reports.as_str() == told_reports(&rt, alloc, &second.reports).as_str());
+    expect_same(&rt, alloc, &program, &first, &second);
+}
+
+/// The run on one thread that begins.
+fn begun(rt: &impl Abort, alloc: Global, program: &Program, turns: u64) -> Outcome {
+    let words = seeded(alloc, program.members().len()).expect(rt, "memory");
+    run_alone(alloc, program, turns, words, &[]).expect(rt, "a run")
+}
+
+/// The same is told of both, and of their workers.
+fn expect_same(
+    rt: &impl Abort,
+    alloc: Global,
+    program: &Program,
+    first: &Outcome,
+    second: &Outcome,
+) {
+    let told = told_outcome(rt, alloc, program.types(), first);
+    assert!(rt; told.as_str() == told_outcome(rt, alloc, program.types(), second).as_str());
+    let reports = told_reports(rt, alloc, &first.reports);
+    assert!(rt; reports.as_str() == told_reports(rt, alloc, &second.reports).as_str());
 }

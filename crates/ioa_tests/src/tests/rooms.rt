@@ -223,8 +223,8 @@ pub fn script(rt: &impl Abort, alloc: Global, types: &Types, texts: &[&str]) -> 
 
 /// What was performed, the states, and the end.
 pub fn told_outcome(rt: &impl Abort, alloc: Global, types: &Types, outcome: &Outcome) -> String {
-    let entries = told_entries(alloc, types, &outcome.log).expect(rt, "memory");
-    let states = told_states(alloc, types, &outcome.states).expect(rt, "memory");
+    let entries = told_entries(rt, alloc, types, &outcome.log);
+    let states = told_states(rt, alloc, types, &outcome.states);
     let end = outcome.end.end();
     format!(in alloc; "{entries}{states}, {end}").expect(rt, "memory")
 }

@@ -6,7 +6,7 @@ use ioa_compile::Program;
 use ioa_rows::COUNTER;
 use ioa_run::{Answer, Board, Core, Event, Recorded, play};
 use ioa_system::LogEntry;
-use ioa_value::{Fault, OutOfMemory, Types, print_action};
+use ioa_value::{Fault, Types, print_action};
 use std::alloc::Global;
 use std::process::Abort;
 
@@ -96,49 +96,48 @@ fn event(rt: &impl Abort, alloc: Global, types: &Types, turn: &Turn) -> Event {
 }
 
 /// A worker and its action.
-fn told_entry(alloc: Global, types: &Types, entry: &LogEntry) -> Result<String, OutOfMemory> {
-    let action = print_action(alloc, types, &entry.action)?;
-    Ok(format!(in alloc; "{} {action}", entry.who)?)
+fn told_entry(rt: &impl Abort, alloc: Global, types: &Types, entry: &LogEntry) -> String {
+    let action = print_action(alloc, types, &entry.action).expect(rt, "memory");
+    format!(in alloc; "{} {action}", entry.who).expect(rt, "memory")
 }
 
 /// Workers and their actions, in order.
-pub fn told_entries(
-    alloc: Global,
-    types: &Types,
-    entries: &[LogEntry],
-) -> Result<String, OutOfMemory> {
+pub fn told_entries(rt: &impl Abort, alloc: Global, types: &Types, entries: &[LogEntry]) -> String {
     let mut text = String::new(alloc);
     for entry in entries {
         if !text.is_empty() {
-            text.push_str("; ")?;
+            text.push_str("; ").expect(rt, "memory");
         }
-        text.push_str(told_entry(alloc, types, entry)?.as_str())?;
+        let told = told_entry(rt, alloc, types, entry);
+        text.push_str(told.as_str()).expect(rt, "memory");
     }
-    Ok(text)
+    text
 }
 
 /// The fault that is recorded, if one is.
 fn told_record(
+    rt: &impl Abort,
     alloc: Global,
     types: &Types,
     recorded: Option<&Recorded>,
-) -> Result<String, OutOfMemory> {
+) -> String {
     match recorded {
         Some(recorded) => {
-            let entry = told_entry(alloc, types, &recorded.entry)?;
+            let entry = told_entry(rt, alloc, types, &recorded.entry);
             let fault = recorded.fault.number();
             let component = recorded.component;
-            Ok(format!(in alloc; ", {entry} has fault {fault} in component {component}")?)
+            let told = format!(in alloc; ", {entry} has fault {fault} in component {component}");
+            told.expect(rt, "memory")
         }
-        None => Ok(String::new(alloc)),
+        None => String::new(alloc),
     }
 }
 
 pub fn told_board(rt: &impl Abort, alloc: Global, board: &Board<'_>) -> String {
     let types = board.program().types();
-    let entries = told_entries(alloc, types, board.history()).expect(rt, "memory");
-    let states = told_states(alloc, types, board.states()).expect(rt, "memory");
-    let record = told_record(alloc, types, board.recorded()).expect(rt, "memory");
+    let entries = told_entries(rt, alloc, types, board.history());
+    let states = told_states(rt, alloc, types, board.states());
+    let record = told_record(rt, alloc, types, board.recorded());
     format!(in alloc; "{entries}{states}{record}").expect(rt, "memory")
 }
 

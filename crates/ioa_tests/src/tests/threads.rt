@@ -506,7 +506,7 @@ fn ran<R: Abort + Threads + Wait + Clock + Sync>(
 
 /// Compares the points to which the workers came with what is wanted, and with what their reports count.
 fn expect_points(rt: &impl Abort, alloc: Global, case: &Case, reports: &[Report], stops: &[Stop]) {
-    let points = told_points(alloc, reports.len(), stops).expect(rt, "memory");
+    let points = told_points(rt, alloc, reports.len(), stops);
     assert!(rt;
         is_wanted(rt, alloc, case.points, points.as_str()),
         "{points}"
@@ -524,15 +524,15 @@ fn ends_as_counted(stops: &[Stop], who: usize, report: &Report) -> bool {
 }
 
 /// The points of each of so many workers, in order.
-fn told_points(alloc: Global, workers: usize, stops: &[Stop]) -> Result<String, AllocError> {
+fn told_points(rt: &impl Abort, alloc: Global, workers: usize, stops: &[Stop]) -> String {
     let mut text = String::new(alloc);
     for who in 0..workers {
         if who > 0 {
-            text.push_str("; ")?;
+            text.push_str("; ").expect(rt, "memory");
         }
-        push_points(&mut text, who, stops)?;
+        push_points(&mut text, who, stops).expect(rt, "memory");
     }
-    Ok(text)
+    text
 }
 
 fn push_points(text: &mut String, who: usize, stops: &[Stop]) -> Result<(), AllocError> {

@@ -94,17 +94,17 @@ const REFUSED: [(&str, u32); 8] = [
     ("\"", 1),
 ];
 
-fn is_terminal(alloc: Global, text: &str, terminal: Terminal) -> Result<bool, Refusal> {
-    let tokens = lex(alloc, text.as_bytes())?;
-    Ok(match tokens.as_slice() {
+fn is_terminal(rt: &impl Abort, alloc: Global, text: &str, terminal: Terminal) -> bool {
+    let tokens = lex(alloc, text.as_bytes()).expect(rt, "tokens");
+    match tokens.as_slice() {
         [token] => matches!(&token.kind, Kind::Terminal(found) if *found == terminal),
         _ => false,
-    })
+    }
 }
 
 fn expect_terminals(rt: &impl Abort, alloc: Global, rows: &[(&str, Terminal)]) {
     for (text, terminal) in rows {
-        let is_so = is_terminal(alloc, text, *terminal).expect(rt, "tokens");
+        let is_so = is_terminal(rt, alloc, text, *terminal);
         assert!(rt; is_so, "{text}");
     }
 }

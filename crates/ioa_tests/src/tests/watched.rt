@@ -134,6 +134,23 @@ fn are_open(programs: &[Program]) -> bool
     true
 }
 
+/// How the programs' watch of a stream ends.
+fn ended(
+    rt: &impl Abort,
+    alloc: Global,
+    programs: &[Program],
+    first: bool,
+    input: &mut Counted<&[u8]>,
+    output: &mut Counted<Vec<u8>>,
+) -> Result<(), LogErr> {
+    assert!(rt; are_open(programs));
+    let types = programs.first().expect(rt, "a program").types();
+    match watch(alloc, types, programs, first, input, output) {
+        Ok(_) => Ok(()),
+        Err(error) => Err(error),
+    }
+}
+
 /// What comes of a stream, and what is told of it.
 fn watched(
     rt: &impl Abort,
@@ -144,21 +161,7 @@ fn watched(
     let programs = counters(rt, alloc);
     let mut input = Counted::new(text.as_bytes());
     let mut output = Counted::new(Vec::new(alloc));
-    let mut answer = Err(LogErr::NoEnd);
-    if are_open(&programs) {
-        let ended = watch(
-            alloc,
-            programs[0].types(),
-            &programs,
-            first,
-            &mut input,
-            &mut output,
-        );
-        answer = match ended {
-            Ok(_) => Ok(()),
-            Err(error) => Err(error),
-        };
-    }
+    let answer = ended(rt, alloc, &programs, first, &mut input, &mut output);
     (answer, output.into_inner())
 }
 

@@ -1,7 +1,7 @@
 //! What there is to say of a refusal that no line of the file itself breaks: of its composition, at a component or a hidden name; that there is none; or of what it
 //! does unseen.
 
-ghost use Rattle.std.specs.Prelude.{◌≡◌, ◌++◌, Option, Some, IfOk, IfSome, OnOk, true};
+ghost use Rattle.std.specs.Prelude.{◌≡◌, ◌⊎◌, ◌++◌, Option, Some, IfOk, IfSome, OnOk, true};
 ghost use Rattle.std.specs.List.{Contains};
 ghost use Rattle.std.specs.Option.{option_copied};
 ghost use Rattle.std.specs.String.{string_bytes};

@@ -110,7 +110,7 @@ fn each_code_is_explained(rt: HostRuntime) {
 }
 
 /// What the program prints, and the topic of each.
-const PRINTED: [(&str, Topic); 15] = [
+const PRINTED: [(&str, Topic); 16] = [
     ("explain e7", Topic::Code(Code::E7)),
     ("explain E7 line 3", Topic::Code(Code::E7)),
     (

@@ -137,14 +137,14 @@ const FAULTS: &str = "\
 const TICKS: &str = "\
 type S = seq 1 of Int \
 automaton Ticker signature output tick(n: Int) states k: Int transitions output tick pre n = k propose n := k eff k := k + 1 \
-automaton All signature input tick(n: Int) states x: Int transitions input tick eff x := n \
-automaton Two signature output tick(n: Int) states k: Int transitions output tick pre n < 2 propose n := k eff k := n \
-automaton Picks signature input tick(n: Int) states s: S; x: Int transitions input tick eff x := at(s, n) \
-automaton Hides signature input tick(n: Int); internal rest states x: Int transitions input tick eff x := n internal rest eff x := 0 \
-composition All components A: All \
-composition Two components T: Two \
-composition Picks components P: Picks \
-composition Hides components H: Hides \
+automaton Taker signature input tick(n: Int) states x: Int transitions input tick eff x := n \
+automaton Pair signature output tick(n: Int) states k: Int transitions output tick pre n < 2 propose n := k eff k := n \
+automaton Picker signature input tick(n: Int) states s: S; x: Int transitions input tick eff x := at(s, n) \
+automaton Hider signature input tick(n: Int); internal rest states x: Int transitions input tick eff x := n internal rest eff x := 0 \
+composition All components A: Taker \
+composition Two components T: Pair \
+composition Picks components P: Picker \
+composition Hides components H: Hider \
 composition Ticks components T: Ticker";
 
 /// The same, of these.

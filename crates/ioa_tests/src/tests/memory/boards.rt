@@ -32,14 +32,33 @@ fn copied(alloc: Global, board: &Board<'_>, action: &Action) -> Result<Vec<NodeS
     board.copy(&numbers)
 }
 
+/// The same, with ample memory.
+fn lent(rt: &impl Abort, alloc: Global, board: &Board<'_>, action: &Action) -> Vec<NodeState>
+    ensures { types_of result.items ≡ taken (steps.participants (tabled board.now.program) (act_of action.now)) (slot_types board.now.program.members) }
+{
+    copied(alloc, board, action).expect(rt, "memory")
+}
+
+/// The plan of worker 0 for the action by these states.
+fn made_of<'p>(
+    alloc: Global,
+    board: &Board<'p>,
+    action: Action,
+    states: Vec<NodeState>,
+) -> Result<Planned<'p>, OutOfMemory>
+    requires { types_of states.items ≡ taken (steps.participants (tabled board.now.program) (act_of action)) (slot_types board.now.program.members) }
+{
+    Plan::make(alloc, board.program(), 0, action, states)
+}
+
 /// A plan for a roll of the die.
 pub fn made(rt: &impl Abort, alloc: Global, spare: Spare) -> Came {
     let program = made::program(rt, alloc, GAME, None);
     let board = Board::start(alloc, &program).expect(rt, "memory");
     let action = made::action(rt, alloc, program.types(), "roll(5)");
-    let states = copied(alloc, &board, &action).expect(rt, "memory");
+    let states = lent(rt, alloc, &board, &action);
     let hoard = all_but(rt, alloc, spare);
-    let answer = Plan::make(alloc, board.program(), 0, action, states);
+    let answer = made_of(alloc, &board, action, states);
     drop(hoard);
     match answer {
         Ok(Planned::Ready(_)) => Came::Answered(true),
@@ -103,13 +122,13 @@ fn commit(
 pub fn committed(rt: &impl Abort, alloc: Global, spare: Spare) -> Came {
     let program = made::program(rt, alloc, COUNTER, None);
     let mut board = Board::start(alloc, &program).expect(rt, "memory");
+    let mut came = Came::Answered(true);
     for number in 0..COMMITS {
-        match commit(rt, alloc, &mut board, number, spare) {
-            Came::Answered(true) => {}
-            other => return other,
+        if matches!(came, Came::Answered(true)) {
+            came = commit(rt, alloc, &mut board, number, spare);
         }
     }
-    Came::Answered(true)
+    came
 }
 
 /// The event's answer, which with ample memory is this one; and what stands where it is refused memory.
@@ -131,31 +150,66 @@ fn event(
     }
 }
 
+/// The same, where the worker's next commit is answered so if the event is refused memory.
+fn event_and_after(
+    rt: &impl Abort,
+    alloc: Global,
+    core: &mut Core<'_>,
+    given: Event,
+    wanted: Answer,
+    after: Answer,
+    spare: Spare,
+) -> Came {
+    match event(rt, alloc, core, given, wanted, spare) {
+        Came::Wanting(is_kept) => {
+            let answer = core.event(Event::Commit(0)).expect(rt, "memory");
+            Came::Wanting(is_kept && answer == after)
+        }
+        Came::Answered(is_right) => Came::Answered(is_right),
+        Came::Unbegun(..) => Came::Answered(false),
+    }
+}
+
+/// The tick of this number is copied and committed.
+fn ticked(
+    rt: &impl Abort,
+    alloc: Global,
+    core: &mut Core<'_>,
+    tick: Action,
+    number: usize,
+    spare: Spare,
+) -> Came {
+    let copy = Event::Copy(0, tick);
+    let copied = event_and_after(
+        rt,
+        alloc,
+        core,
+        copy,
+        Answer::Planned,
+        Answer::NoPlan,
+        spare,
+    );
+    match copied {
+        Came::Answered(true) => {
+            let wanted = Answer::Committed(number);
+            event_and_after(rt, alloc, core, Event::Commit(0), wanted, wanted, spare)
+        }
+        other => other,
+    }
+}
+
 /// A worker that copies and commits: where its copy is refused memory it has no plan, and where its commit is it has the one from before.
 pub fn answered(rt: &impl Abort, alloc: Global, spare: Spare) -> Came {
     let program = made::program(rt, alloc, COUNTER, None);
     let mut core = Core::start(alloc, &program).expect(rt, "memory");
+    let mut came = Came::Answered(true);
     for number in 0..COMMITS {
-        let copy = Event::Copy(0, tick(rt, alloc, &program, number));
-        match event(rt, alloc, &mut core, copy, Answer::Planned, spare) {
-            Came::Answered(true) => {}
-            Came::Wanting(is_kept) => {
-                let after = core.event(Event::Commit(0)).expect(rt, "memory");
-                return Came::Wanting(is_kept && after == Answer::NoPlan);
-            }
-            Came::Unbegun(..) | Came::Answered(false) => return Came::Answered(false),
-        }
-        let wanted = Answer::Committed(number);
-        match event(rt, alloc, &mut core, Event::Commit(0), wanted, spare) {
-            Came::Answered(true) => {}
-            Came::Wanting(is_kept) => {
-                let after = core.event(Event::Commit(0)).expect(rt, "memory");
-                return Came::Wanting(is_kept && after == wanted);
-            }
-            Came::Unbegun(..) | Came::Answered(false) => return Came::Answered(false),
+        if matches!(came, Came::Answered(true)) {
+            let tick = tick(rt, alloc, &program, number);
+            came = ticked(rt, alloc, &mut core, tick, number, spare);
         }
     }
-    Came::Answered(true)
+    came
 }
 
 /// A board that goes on from a log.

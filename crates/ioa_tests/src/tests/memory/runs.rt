@@ -56,25 +56,53 @@ fn judged(
     given: &str,
 ) -> Came {
     let is_kept = is_program(rt, alloc, program, COUNTER);
-    let outcome = match answer {
-        Ok(outcome) => outcome,
-        Err(error) => {
-            return match error {
-                RunErr::OutOfMemory | RunErr::Threads => Came::Unbegun(error, is_kept),
-                _ => Came::Answered(false),
-            };
-        }
-    };
-    let mut reports = outcome.reports.iter();
-    let is_short = reports.any(|report| report.why == Why::Memory);
-    let is_told = told_reports(rt, alloc, &outcome.reports).as_str() == REPORTS;
-    let is_given = told_outcome(rt, alloc, program.types(), &outcome).as_str() == given;
+    match answer {
+        Ok(outcome) => performed(rt, alloc, program, outcome, given, is_kept),
+        Err(error) => unbegun(error, is_kept),
+    }
+}
+
+/// What came of a run that did not begin.
+fn unbegun(error: RunErr, is_kept: bool) -> Came {
+    match error {
+        RunErr::OutOfMemory | RunErr::Threads => Came::Unbegun(error, is_kept),
+        _ => Came::Answered(false),
+    }
+}
+
+/// What came of a run that gives this.
+fn performed(
+    rt: &impl Abort,
+    alloc: Global,
+    program: &Program,
+    outcome: Outcome,
+    given: &str,
+    is_kept: bool,
+) -> Came {
+    let is_short = outcome
+        .reports
+        .iter()
+        .any(|report| report.why == Why::Memory);
+    let is_whole = is_as_given(rt, alloc, program, &outcome, given);
     let is_log = replay(alloc, program, &log_of(outcome)).is_ok();
     if is_short {
         Came::Wanting(is_log && is_kept)
     } else {
-        Came::Answered(is_log && is_kept && is_told && is_given)
+        Came::Answered(is_log && is_kept && is_whole)
     }
+}
+
+/// Whether the run did this, and its workers what they do with ample memory.
+fn is_as_given(
+    rt: &impl Abort,
+    alloc: Global,
+    program: &Program,
+    outcome: &Outcome,
+    given: &str,
+) -> bool {
+    let reports = told_reports(rt, alloc, &outcome.reports);
+    let told = told_outcome(rt, alloc, program.types(), outcome);
+    reports.as_str() == REPORTS && told.as_str() == given
 }
 
 pub fn alone(rt: &impl Abort, alloc: Global, spare: Spare) -> Came {

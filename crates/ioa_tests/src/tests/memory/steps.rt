@@ -1,9 +1,12 @@
 //! Parts of code, steps, and whole lists and logs, with little memory.
 
-use crate::tests::code::{BOOLS, DIFFERENCE, EQUALITY, SEQUENCES, SUMMING, looping, verdict};
+use crate::tests::code::{
+    BOOLS, DIFFERENCE, EQUALITY, SEQUENCES, SUMMING, changed, changing, copied, holds, looping,
+    numbered, verdict,
+};
 use crate::tests::drawn::{Given, proposing};
 use crate::tests::made;
-use crate::tests::memory::hoard::{Hoard, Spare};
+use crate::tests::memory::hoard::Spare;
 use crate::tests::memory::lent::{are_actions, is_log, is_program};
 use crate::tests::memory::{Came, all_but};
 use crate::tests::objects::SUMS;
@@ -18,7 +21,7 @@ use ioa_log::{Broken, LogErr, MonitorErr, invariants, monitor, replay};
 use ioa_node::{NodeState, propose};
 use ioa_rows::{COUNTER, GAME};
 use ioa_system::{End, Run, Step, System, run_list};
-use ioa_value::{Ty, Value};
+use ioa_value::Value;
 use std::alloc::Global;
 use std::process::Abort;
 
@@ -37,49 +40,41 @@ pub fn verified(rt: &impl Abort, alloc: Global, spare: Spare) -> Came {
 
 /// A precondition of a variable and an argument.
 pub fn enabled(rt: &impl Abort, alloc: Global, spare: Spare) -> Came {
-    compared(alloc, spare).expect(rt, "a precondition")
-}
-
-fn compared(alloc: Global, spare: Spare) -> Result<Came, CodeErr> {
-    let types = made::basic(alloc)?;
-    let code = verdict(alloc, &types, PartKind::Pre, EQUALITY, BOOLS)?;
-    let state = ioa_node::from_values(alloc, &types, &[Ty::INT], &[Value::Num(5)])?;
-    let kept = state.try_copy(alloc)?;
-    let hoard = Hoard::all_but(alloc, spare)?;
-    let answer = ioa_node::enabled(alloc, &code, &state, &[Value::Num(5)]);
+    let types = made::basic(alloc).expect(rt, "memory");
+    let code = verdict(alloc, &types, PartKind::Pre, EQUALITY, BOOLS).expect(rt, "a precondition");
+    let state = numbered(rt, alloc, &types, 5);
+    let kept = copied(rt, alloc, &state);
+    let hoard = all_but(rt, alloc, spare);
+    let answer = holds(alloc, &code, &state, 5);
     drop(hoard);
-    Ok(match answer {
+    match answer {
         Ok(answer) => Came::Answered(answer == Ok(true)),
         Err(_) => Came::Wanting(state.same(&kept)),
-    })
+    }
 }
 
 /// An effect that lessens a variable by an argument.
 pub fn effect(rt: &impl Abort, alloc: Global, spare: Spare) -> Came {
-    lessened(alloc, spare).expect(rt, "an effect")
-}
-
-fn lessened(alloc: Global, spare: Spare) -> Result<Came, CodeErr> {
-    let types = made::basic(alloc)?;
-    let code = verdict(alloc, &types, PartKind::Eff, DIFFERENCE, &[])?;
-    let state = ioa_node::from_values(alloc, &types, &[Ty::INT], &[Value::Num(5)])?;
-    let kept = state.try_copy(alloc)?;
-    let wanted = ioa_node::from_values(alloc, &types, &[Ty::INT], &[Value::Num(-2)])?;
-    let hoard = Hoard::all_but(alloc, spare)?;
-    let answer = ioa_node::effect(alloc, &code, &state, &[Value::Num(7)]);
+    let types = made::basic(alloc).expect(rt, "memory");
+    let code = changing(rt, alloc, &types, DIFFERENCE);
+    let state = numbered(rt, alloc, &types, 5);
+    let kept = copied(rt, alloc, &state);
+    let wanted = numbered(rt, alloc, &types, -2);
+    let hoard = all_but(rt, alloc, spare);
+    let answer = changed(alloc, &code, &state, 7);
     drop(hoard);
-    Ok(match answer {
+    match answer {
         Ok(Ok(after)) => Came::Answered(after.same(&wanted) && state.same(&kept)),
         Ok(Err(_)) => Came::Answered(false),
         Err(_) => Came::Wanting(state.same(&kept)),
-    })
+    }
 }
 
 /// A proposal by a word, which a refusal may have taken.
 pub fn proposed(rt: &impl Abort, alloc: Global, spare: Spare) -> Came {
     let program = made::program(rt, alloc, GAME, None);
     let (code, state) = proposing(&program, 0, 0).expect(rt, "a proposal");
-    let kept = state.try_copy(alloc).expect(rt, "memory");
+    let kept = copied(rt, alloc, state);
     let mut words = Given { words: &[17, 4] };
     let hoard = all_but(rt, alloc, spare);
     let answer = propose(alloc, code, state, &mut words);
@@ -96,7 +91,7 @@ pub fn proposed(rt: &impl Abort, alloc: Global, spare: Spare) -> Came {
 
 /// The values of the states.
 fn told(rt: &impl Abort, alloc: Global, program: &Program, states: &[NodeState]) -> String {
-    told_states(alloc, program.types(), states).expect(rt, "memory")
+    told_states(rt, alloc, program.types(), states)
 }
 
 /// A step of two components.

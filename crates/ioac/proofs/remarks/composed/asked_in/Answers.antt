@@ -1,11 +1,11 @@
-use Rattle.std.proofs.Common.{Option, Some, inl, inr, refl, string_bytes, subst, sym}
+use Rattle.std.proofs.Common.{◌≡◌, ◌⊎◌, Option, Some, inl, inr, refl, string_bytes, subst, sym}
 use Rattle.std.specs.List.{Contains}
 use Rattle.std.specs.Option.{option_copied}
 use Rattle.ioa_value.specs.Actions.{Name}
 use Rattle.ioa_causes.proofs.Found.{if_found}
 use Rattle.ioac.specs.declared.remarks.composed.Said.{Said}
 use Rattle.ioa_request.specs.Pasted.{texts}
-use Rattle.ioac.specs.Composed.{IsRefusedAs, IsRefusedFor, specifications_of}
+use Rattle.ioac.specs.Composed.{IsOf, IsRefusedAs, IsRefusedFor, specifications_of}
 use Rattle.ioac.proofs.remarks.composed.asked_in.Goals as goal
 
 -- a check asks of each
@@ -29,6 +29,18 @@ returns-in-Watch c =
     (λ (s : Said). IsRefusedFor c.args.asked.now ts ds e s.line (string_bytes s.words)) c.watched_in.result
     (λ said refused. (Some refused.0, inr (inr (refused.0, subst (λ r. Contains (specifications_of r) refused.0) (sym c.in-Watch.is) refused.1, refl)), refused.2))
     c.watched_in.ensures
+
+-- runs by many seeds of theirs, or of one of their specifications
+pub returns-in-Seeds : goal.returns-in-Seeds
+returns-in-Seeds c =
+    let ts = c.args.placed.now.tokens.items in
+    let ds = c.args.placed.now.checked in
+    let e = c.args.failure.now in
+    let seeds = c.in-Seeds.seeds in
+    if_found (λ (s : Said). (name : Option Name) × ((name ≡ option_copied seeds.run.composition) ⊎ ((x : Name) × Contains (texts seeds.monitors.now) x × (name ≡ Some x)))
+    × IsRefusedAs ts ds name e s.line (string_bytes s.words)) (λ (s : Said). IsRefusedFor c.args.asked.now ts ds e s.line (string_bytes s.words)) c.sown_in.result
+    (λ said refused. (refused.0, inr (subst (λ r. IsOf r refused.0) (sym c.in-Seeds.is) refused.1), refused.2))
+    c.sown_in.ensures
 
 -- others of the one that they name
 pub returns : goal.returns
