@@ -18,7 +18,7 @@ demo:
 
 # The whole gate. It leaves no new file in the checkout.
 test:
-	@FILES=$$(sh examples/files.sh) && export FILES && tools/planted --texts && tools/believed && rt ci && sh examples/alone.sh $(PROGRAM) && sh examples/threads.sh $(PROGRAM) && \
+	@FILES=$$(sh examples/files.sh) && export FILES && tools/planted --texts && tools/believed && RT_JOBS=$${RT_JOBS:-$$(tools/lanes)} rt ci && sh examples/alone.sh $(PROGRAM) && sh examples/threads.sh $(PROGRAM) && \
 	  sh examples/objects.sh $(PROGRAM) && sh examples/logs.sh $(PROGRAM) && \
 	  sh examples/library.sh $(PROGRAM) && tools/pages $(PROGRAM) && tools/manual $(PROGRAM) && sh examples/run.sh $(PROGRAM)
 
