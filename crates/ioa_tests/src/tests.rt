@@ -10,7 +10,6 @@ mod made;
 mod memory;
 mod objects;
 mod operators;
-mod proposals;
 mod reached;
 mod resumed;
 mod rooms;

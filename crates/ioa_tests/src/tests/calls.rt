@@ -20,7 +20,7 @@ use std::alloc::Global;
 use std::process::Abort;
 
 /// A text, and the action that it spells, as it is printed.
-const ACTIONS: [(&str, Option<&str>); 17] = [
+static ACTIONS: [(&str, Option<&str>); 17] = [
     (" tick( 0005 ,\ttrue ) \r", Some("tick(5, true)")),
     ("reset", Some("reset")),
     (
@@ -66,20 +66,16 @@ fn printed_copy(rt: &impl Abort, alloc: Global, types: &Types, action: &Action) 
     print_action(alloc, types, &copy).expect(rt, "memory")
 }
 
-fn expect_printed(rt: &impl Abort, alloc: Global, rows: &[(&str, Option<&str>)]) {
-    let types = basic(alloc).expect(rt, "memory");
-    for (text, wanted) in rows {
-        let is_so = is_printed_so(rt, alloc, &types, text, *wanted);
+#[test]
+fn reads_and_prints_actions(rt: HostRuntime) {
+    let types = basic(&rt, rt.alloc());
+    for (text, wanted) in &ACTIONS {
+        let is_so = is_printed_so(&rt, rt.alloc(), &types, text, *wanted);
         assert!(rt; is_so, "{text}");
     }
 }
 
-#[test]
-fn reads_and_prints_actions(rt: HostRuntime) {
-    expect_printed(&rt, rt.alloc(), &ACTIONS);
-}
-
-/// A source, and its text as it is printed: after each token a space, or the end of the line.
+/// A source, and its text as it is printed: after each token a space, or the end of the line; and of some another source.
 const PRINTED: &str = "\
 -- types
 type K = enum { a, b } type P = tuple { k: K, n: Int } type S = seq 4 of P | type K = enum { a , b }^type P = tuple { k : K , n : Int }^type S = seq 4 of P^
@@ -98,33 +94,36 @@ automaton A signature internal r transitions internal r eff if a then x := 1; x 
 -- compositions and invariants
 composition C components X: A; Y: B(1, true) crash down recover up; Z: A crash d recover u hidden a, b | composition C components^X : A^; Y : B ( 1 , true )^crash down recover up^; Z : A^crash d recover u^hidden a^, b^
 invariant of A: x < 1 | invariant of A : x < 1^
+-- proposals of any number below one
+automaton A signature output r(d: Int) transitions output r propose d:=any(1) | automaton A^signature^output r ( d : Int )^transitions^output r^propose d := any ( 1 )^ | automaton A signature output r(d: Int) transitions output r propose d := 1
+automaton A signature output r(d: Int) transitions output r propose d:=any((1)),e:=any(1+n) eff x:=1 | automaton A^signature^output r ( d : Int )^transitions^output r^propose d := any ( ( 1 ) )^, e := any ( 1 + n )^eff x := 1^ | automaton A signature output r(d: Int) transitions output r propose d := any((1)), e := 1 + n eff x := 1
 ";
 
-// The source is printed so, and the text is of an equal source, which is no source of nothing.
-fn expect_source(rt: &impl Abort, alloc: Global, source: &str, text: &str) {
+// The source is printed so, and the text is of an equal source, which the other one, or that of nothing, is not.
+fn expect_source(rt: &impl Abort, alloc: Global, source: &str, text: &str, other: &str) {
     let source = parsed(rt, alloc, source.as_bytes());
     let printed = print(alloc, &source).expect(rt, "memory");
     assert!(rt; printed.as_slice() == text.as_bytes(), "{text}");
-    assert!(rt;
-        source.same(&parsed(rt, alloc, printed.as_slice())),
-        "{text}"
-    );
-    assert!(rt; !source.same(&parsed(rt, alloc, b"")), "{text}");
+    let again = parsed(rt, alloc, printed.as_slice());
+    assert!(rt; source.same(&again), "{text}");
+    let other = parsed(rt, alloc, other.as_bytes());
+    assert!(rt; !source.same(&other) && !again.same(&other), "{text}");
 }
 
 #[test]
 fn prints_what_is_parsed(rt: HostRuntime) {
     for row in PRINTED.lines() {
         if is_row(row) {
-            let columns = columns(rt.alloc(), row).expect(&rt, "a row");
-            expect_source(&rt, rt.alloc(), column(&columns, 0), column(&columns, 1));
+            let row = columns(rt.alloc(), row).expect(&rt, "a row");
+            let (source, text, other) = (column(&row, 0), column(&row, 1), column(&row, 2));
+            expect_source(&rt, rt.alloc(), source, text, other);
         }
     }
 }
 
 /// The first number, and the first truth value.
 fn first_values(rt: &impl Abort, alloc: Global) -> (Value, Value) {
-    let types = basic(alloc).expect(rt, "memory");
+    let types = basic(rt, alloc);
     let zero = first(alloc, &types, Ty::INT).expect(rt, "memory");
     let no = first(alloc, &types, Ty::BOOL).expect(rt, "memory");
     (zero, no)
@@ -132,7 +131,7 @@ fn first_values(rt: &impl Abort, alloc: Global) -> (Value, Value) {
 
 // The value is the one that is wanted, of this type, and not of the other.
 fn expect_value(rt: &impl Abort, alloc: Global, value: &Value, wanted: &Value, ty: Ty, other: Ty) {
-    let types = basic(alloc).expect(rt, "memory");
+    let types = basic(rt, alloc);
     assert!(rt; same(value, wanted));
     assert!(rt; has_type(&types, value, ty) && !has_type(&types, value, other));
 }
@@ -192,7 +191,7 @@ fn number_in(rt: &impl Abort, alloc: Global, system: &System<'_>) -> Option<i64>
 }
 
 /// Actions of the counter, one after another, what each step answers, and the count then.
-const STEPS: [(&str, Step, i64); 6] = [
+static STEPS: [(&str, Step, i64); 6] = [
     ("tick(6)", Step::NotEnabled, 5),
     ("tock", Step::NotAnAction, 5),
     ("tick(5)", Step::Next, 6),
@@ -216,18 +215,14 @@ fn expect_step(
     assert!(rt; number == Some(count), "{count}");
 }
 
-fn expect_steps(rt: &impl Abort, alloc: Global, rows: &[(&str, Step, i64)]) {
-    let program = program(rt, alloc, COUNTER, Some("One"));
-    let mut system = System::start(alloc, &program).expect(rt, "memory");
-    for (text, wanted, count) in rows {
-        let action = action(rt, alloc, program.types(), text);
-        expect_step(rt, alloc, &mut system, &action, wanted, *count);
-    }
-}
-
 #[test]
 fn steps_a_program(rt: HostRuntime) {
-    expect_steps(&rt, rt.alloc(), &STEPS);
+    let program = program(&rt, rt.alloc(), COUNTER, Some("One"));
+    let mut system = System::start(rt.alloc(), &program).expect(&rt, "memory");
+    for (text, wanted, count) in &STEPS {
+        let action = action(&rt, rt.alloc(), program.types(), text);
+        expect_step(&rt, rt.alloc(), &mut system, &action, wanted, *count);
+    }
 }
 
 /// What the next step answers from the states that these actions reach, and the number then.

@@ -21,7 +21,7 @@ const ONE: [u8; 32] = [
 
 /// A key, a stream, how many words are passed over, and those that come then: of the published keystreams of ChaCha8 whose key and nonce
 /// are zero, whose key begins with 1, and whose nonce begins with 1.
-const SEEDS: [([u8; 32], u64, usize, [u32; 4]); 4] = [
+static SEEDS: [([u8; 32], u64, usize, [u32; 4]); 4] = [
     (ZERO, 0, 0, [0x2fef003e, 0xd6405f89, 0xe8b85b7f, 0xa1a5091f]),
     (
         ZERO,
@@ -35,13 +35,13 @@ const SEEDS: [([u8; 32], u64, usize, [u32; 4]); 4] = [
 
 #[test]
 fn seeds_give_words(rt: HostRuntime) {
-    for (key, stream, passed, wanted) in SEEDS {
-        let mut words = Seeded::new(key, stream);
-        for _ in 0..passed {
+    for (key, stream, passed, wanted) in &SEEDS {
+        let mut words = Seeded::new(*key, *stream);
+        for _ in 0..*passed {
             words.next();
         }
         for word in wanted {
-            assert_eq!(rt; words.next(), word);
+            assert!(rt; words.next() == *word);
         }
     }
 }
@@ -89,7 +89,7 @@ type Draw = (
     usize,
 );
 
-const DRAWS: [Draw; 9] = [
+static DRAWS: [Draw; 9] = [
     (GAME, (0, 0), &[17, 4], Some("roll(5)"), 1),
     (GAME, (0, 0), &[4294967295], Some("roll(3)"), 0),
     (GAME, (1, 1), &[1, 2], Some("tell(0)"), 2),
@@ -169,7 +169,7 @@ fn expect_draw(rt: &impl Abort, alloc: Global, workspace: &mut Workspace, draw: 
     let (source, place, words, wanted, left) = *draw;
     let program = program(rt, alloc, source, None);
     let (values, rest) = drawn(rt, alloc, workspace, &program, place, words);
-    assert_eq!(rt; rest, left);
+    assert!(rt; rest == left, "{source}");
     match values {
         Some(values) => {
             let told = told_values(rt, alloc, &program, place, values);
@@ -179,14 +179,10 @@ fn expect_draw(rt: &impl Abort, alloc: Global, workspace: &mut Workspace, draw: 
     }
 }
 
-fn expect_draws(rt: &impl Abort, alloc: Global, draws: &[Draw]) {
-    let mut workspace = Workspace::new(alloc);
-    for draw in draws {
-        expect_draw(rt, alloc, &mut workspace, draw);
-    }
-}
-
 #[test]
 fn words_decide_what_is_proposed(rt: HostRuntime) {
-    expect_draws(&rt, rt.alloc(), &DRAWS);
+    let mut workspace = Workspace::new(rt.alloc());
+    for draw in &DRAWS {
+        expect_draw(&rt, rt.alloc(), &mut workspace, draw);
+    }
 }

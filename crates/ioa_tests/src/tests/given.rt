@@ -15,7 +15,7 @@ type Given = (&'static str, Kind, &'static str);
 /// Components, hidden names, and why they are no program, if they are none.
 type Row = (&'static [Given], &'static [&'static str], Option<TableErr>);
 
-const ROWS: [Row; 9] = [
+static ROWS: [Row; 9] = [
     (&[("A", Kind::Output, "go")], &[], None),
     (&[("A", Kind::Internal, "go")], &[], None),
     (
@@ -69,30 +69,22 @@ fn part(
     verify(alloc, Code { instrs, consts }, &env).expect(rt, "valid code")
 }
 
-/// The precondition and the proposal of an entry of this kind, which an input has not.
-fn choice(
-    rt: &impl Abort,
-    alloc: Global,
-    types: &Types,
-    kind: Kind,
-) -> (Option<Verified>, Option<Verified>) {
-    if kind == Kind::Input {
-        return (None, None);
-    }
-    let pre = part(
-        rt,
-        alloc,
-        types,
-        PartKind::Pre,
-        &[Instr::Const(0)],
-        &[Ty::BOOL],
-    );
-    let propose = part(rt, alloc, types, PartKind::Propose, &[], &[]);
-    (Some(pre), Some(propose))
-}
-
+/// An entry of this kind and name; an input has neither precondition nor proposal.
 fn entry(rt: &impl Abort, alloc: Global, types: &Types, kind: Kind, name: &str) -> Entry {
-    let (pre, propose) = choice(rt, alloc, types, kind);
+    let (pre, propose) = match kind {
+        Kind::Input => (None, None),
+        _ => (
+            Some(part(
+                rt,
+                alloc,
+                types,
+                PartKind::Pre,
+                &[Instr::Const(0)],
+                &[Ty::BOOL],
+            )),
+            Some(part(rt, alloc, types, PartKind::Propose, &[], &[])),
+        ),
+    };
     Entry {
         kind,
         name: String::from_str(alloc, name).expect(rt, "memory"),
@@ -136,7 +128,7 @@ fn hidden(rt: &impl Abort, alloc: Global, names: &[&str]) -> Vec<String> {
 
 /// Why these components are no program, if they are none.
 fn refusal(rt: &impl Abort, alloc: Global, given: &[Given], names: &[&str]) -> Option<TableErr> {
-    let types = basic(alloc).expect(rt, "memory");
+    let types = basic(rt, alloc);
     let members = members(rt, alloc, &types, given);
     let tables = Tables {
         types,
@@ -147,13 +139,9 @@ fn refusal(rt: &impl Abort, alloc: Global, given: &[Given], names: &[&str]) -> O
     Program::from_tables(alloc, tables).err()
 }
 
-fn expect_refusals(rt: &impl Abort, alloc: Global, rows: &[Row]) {
-    for (given, hidden, wanted) in rows {
-        assert!(rt; refusal(rt, alloc, given, hidden) == *wanted);
-    }
-}
-
 #[test]
 fn right_tables_are_programs(rt: HostRuntime) {
-    expect_refusals(&rt, rt.alloc(), &ROWS);
+    for (given, hidden, wanted) in &ROWS {
+        assert!(rt; refusal(&rt, rt.alloc(), given, hidden) == *wanted);
+    }
 }

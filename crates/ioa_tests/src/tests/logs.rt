@@ -20,7 +20,7 @@ use std::io::ErrorKind;
 use std::process::Abort;
 
 /// A text of a log, and the text as it is written.
-const WRITTEN: [(&str, &str); 4] = [
+static WRITTEN: [(&str, &str); 4] = [
     ("{\"end\":\"done after 0\"}", "{\"end\":\"done after 0\"}\n"),
     (
         "{\"act\":\"tick(5)\",\"who\":0}\n{\"act\":\"reset\",\"who\":1}\n{\"end\":\"done after 2\"}\n",
@@ -38,7 +38,7 @@ const WRITTEN: [(&str, &str); 4] = [
 
 // The log as it is written.
 fn written(rt: &impl Abort, alloc: Global, text: &str) -> Vec<u8> {
-    let types = basic(alloc).expect(rt, "memory");
+    let types = basic(rt, alloc);
     let mut input = Counted::new(text.as_bytes());
     let log = read_log(alloc, &types, &mut input).expect(rt, "a log");
     let mut output = Counted::new(Vec::new(alloc));
@@ -48,7 +48,7 @@ fn written(rt: &impl Abort, alloc: Global, text: &str) -> Vec<u8> {
 
 #[test]
 fn writes_logs(rt: HostRuntime) {
-    for (text, wanted) in WRITTEN {
+    for (text, wanted) in &WRITTEN {
         let written = written(&rt, rt.alloc(), text);
         assert!(rt; written.as_slice() == wanted.as_bytes(), "{text}");
     }
@@ -58,14 +58,6 @@ fn writes_logs(rt: HostRuntime) {
 #[derive(Drop)]
 struct Workers {
     text: String,
-}
-
-impl Workers {
-    fn none(alloc: Global) -> Workers {
-        Workers {
-            text: String::new(alloc),
-        }
-    }
 }
 
 impl EntryWriter for Workers {
@@ -83,7 +75,9 @@ impl EntryWriter for Workers {
 fn hands_on_entries(rt: HostRuntime) {
     let program = program(&rt, rt.alloc(), COUNTER, None);
     let mut input = Counted::new(TICKED.as_bytes());
-    let mut workers = Workers::none(rt.alloc());
+    let mut workers = Workers {
+        text: String::new(rt.alloc()),
+    };
     let end = write_entries(rt.alloc(), &program, &mut input, &mut workers);
     assert!(rt; end == Ok(End::Done(3)), "{end:?}");
     assert!(rt;
@@ -111,7 +105,7 @@ const LIST: &str = "tick(5)\ntick(6)\nreset\n";
 const PRINTED: &str = "tick(5)\ntick(6)\nreset\nend: done after 3\n";
 
 /// Calls, what they read, and what they write.
-const CALLS: [(Call, &str, &str); 7] = [
+static CALLS: [(Call, &str, &str); 7] = [
     (Call::ReplayList, LIST, PRINTED),
     (Call::ReplayLog, TICKED, PRINTED),
     (Call::LogList, LIST, TICKED),
@@ -199,7 +193,9 @@ fn entries_written(
     program: &Program,
     input: &mut Counted<Dripping<'_>>,
 ) -> Result<(), LogErr> {
-    let mut workers = Workers::none(alloc);
+    let mut workers = Workers {
+        text: String::new(alloc),
+    };
     match write_entries(alloc, program, input, &mut workers) {
         Ok(_) => Ok(()),
         Err(error) => Err(error),
@@ -307,18 +303,22 @@ fn is_failed(ended: &Ended, failures: (u64, u64), bytes: u64, whole: &[u8]) -> b
         && whole.starts_with(ended.written.as_slice())
 }
 
-/// The call fails at a call of its reader after so many, and has written nothing.
-fn expect_no_read(rt: &impl Abort, trial: &Trial<'_>, left: u64) {
-    let ended = tried(trial, (left, trial.writes()));
-    let is_failed = is_failed(&ended, (1, 0), 0, trial.written);
-    assert!(rt; is_failed, "{:?} after {left} reads", trial.call);
-}
-
-/// The call fails at a call of its writer after so many, and has written what was taken before.
-fn expect_no_write(rt: &impl Abort, trial: &Trial<'_>, left: u64) {
-    let ended = tried(trial, (trial.reads(), left));
-    let is_failed = is_failed(&ended, (0, 1), left, trial.written);
-    assert!(rt; is_failed, "{:?} after {left} writes", trial.call);
+/// The call fails after so many calls of its reader and of its writer, with so many failures of each, and has written so many bytes.
+fn expect_failure(
+    rt: &impl Abort,
+    trial: &Trial<'_>,
+    calls: (u64, u64),
+    failures: (u64, u64),
+    bytes: u64,
+) {
+    let ended = tried(trial, calls);
+    let is_failed = is_failed(&ended, failures, bytes, trial.written);
+    let (reads, writes) = calls;
+    assert!(rt;
+        is_failed,
+        "{:?} after {reads} reads and {writes} writes",
+        trial.call
+    );
 }
 
 /// The call passes on devices that would fail at the next call, and no such call is made.
@@ -335,12 +335,12 @@ fn expect_enough(rt: &impl Abort, trial: &Trial<'_>) {
 fn expect_failures(rt: &impl Abort, trial: &Trial<'_>, is_each: bool) {
     for left in 0..trial.reads() {
         if is_each || left % 16 == 0 {
-            expect_no_read(rt, trial, left);
+            expect_failure(rt, trial, (left, trial.writes()), (1, 0), 0);
         }
     }
     for left in 0..trial.writes() {
         if is_each || left % 16 == 0 {
-            expect_no_write(rt, trial, left);
+            expect_failure(rt, trial, (trial.reads(), left), (0, 1), left);
         }
     }
     expect_enough(rt, trial);
@@ -359,10 +359,10 @@ fn failing<'a>(
     alloc: Global,
     program: &'a Program,
     log: &'a Log,
-    row: (Call, &'static str, &'static str),
+    row: &(Call, &'static str, &'static str),
     kind: ErrorKind,
 ) -> Trial<'a> {
-    let (call, given, written) = row;
+    let (call, given, written) = *row;
     Trial {
         alloc,
         program,
@@ -379,11 +379,11 @@ fn calls_fail_with_their_devices(rt: HostRuntime) {
     let alloc = rt.alloc();
     let program = program(&rt, alloc, COUNTER, None);
     let log = log(&rt, alloc, program.types(), TICKED);
-    for row in CALLS {
+    for row in &CALLS {
         expect_full(&rt, &failing(alloc, &program, &log, row, ErrorKind::Other));
-        for kind in KINDS {
-            let is_each = kind == ErrorKind::Interrupted;
-            expect_failures(&rt, &failing(alloc, &program, &log, row, kind), is_each);
+        for kind in &KINDS {
+            let is_each = *kind == ErrorKind::Interrupted;
+            expect_failures(&rt, &failing(alloc, &program, &log, row, *kind), is_each);
         }
     }
 }

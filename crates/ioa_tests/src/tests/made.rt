@@ -1,6 +1,6 @@
 //! What tests make of texts.
 
-ghost use Rattle.std.specs.Prelude.{◌≡◌, IfOk};
+ghost use Rattle.std.specs.Prelude.{◌≡◌};
 ghost use Rattle.ioa_value.specs.Table as tables;
 
 use ioa_check::check;
@@ -9,15 +9,16 @@ use ioa_compose::compose;
 use ioa_log::{Counted, read_log};
 use ioa_syntax::{Source, parse};
 use ioa_system::Log;
-use ioa_value::{Action, Declarations, OutOfMemory, Types, read_action};
+use ioa_value::{Action, Declarations, Types, read_action};
 use std::alloc::Global;
 use std::process::Abort;
 
 /// Bool and Int alone.
-pub fn basic(alloc: Global) -> Result<Types, OutOfMemory>
-    ensures { IfOk result (λ t. t ≡ tables.basic) }
+pub fn basic(rt: &impl Abort, alloc: Global) -> Types
+    ensures { result ≡ tables.basic }
 {
-    Declarations::new(alloc)?.finish(alloc)
+    let declarations = Declarations::new(alloc).expect(rt, "memory");
+    declarations.finish(alloc).expect(rt, "memory")
 }
 
 /// The action that is spelled so.

@@ -9,7 +9,14 @@ mod sources;
 mod steps;
 mod texts;
 
+use crate::tests::code::SEQUENCES;
+use crate::tests::made;
 use crate::tests::memory::hoard::{Hoard, STEP, Spare};
+use crate::tests::memory::lent::is_program;
+use crate::tests::memory::sources::THROWS;
+use crate::tests::objects::SUMS;
+use ioa_compile::Program;
+use ioa_rows::{COUNTER, GAME};
 use ioa_run::RunErr;
 use std::alloc::Global;
 use std::process::Abort;
@@ -27,8 +34,19 @@ enum Came {
     Answered(bool),
 }
 
+impl Came {
+    /// The same, where this holds, too, of what was lent.
+    fn and(self, is_kept: bool) -> Came {
+        match self {
+            Came::Wanting(was_kept) => Came::Wanting(was_kept && is_kept),
+            Came::Unbegun(error, was_kept) => Came::Unbegun(error, was_kept && is_kept),
+            Came::Answered(is_right) => Came::Answered(is_right && is_kept),
+        }
+    }
+}
+
 /// How often a call was refused memory; of runs, how often a worker was in its turn, or the run before the start, or a thread.
-#[derive(Clone, Copy, Debug)]
+#[derive(Clone, Copy)]
 struct Refusals {
     wanting: usize,
     unbegun: usize,
@@ -58,36 +76,26 @@ impl Refusals {
 
     /// Whether the call was refused memory in each way in which it may be. Of a run on threads either a thread was refused or a worker in its turn:
     /// a thread may find its memory where one before it had its own.
-    fn are_those_of(self, call: Call) -> bool {
-        match call {
-            Call::RunAlone | Call::ResumeAlone => {
-                self.wanting > 0 && self.unbegun > 0 && self.threadless == 0
+    fn are_those_of(self, way: &Way) -> bool {
+        match way {
+            Way::Alone => self.wanting > 0 && self.unbegun > 0 && self.threadless == 0,
+            Way::Threads => self.unbegun > 0 && (self.threadless > 0 || self.wanting > 0),
+            Way::Plain | Way::Reading => {
+                self.wanting > 0 && self.unbegun == 0 && self.threadless == 0
             }
-            Call::RunThreads | Call::ResumeThreads => {
-                self.unbegun > 0 && (self.threadless > 0 || self.wanting > 0)
-            }
-            _ => self.wanting > 0 && self.unbegun == 0 && self.threadless == 0,
         }
     }
 }
 
-/// A public call that takes memory.
-#[derive(Clone, Copy, Debug)]
+/// A public call that takes memory and a program.
 enum Call {
-    Parse,
-    Check,
-    Compose,
-    Compile,
     Verify,
-    Enabled,
-    Effect,
     Propose,
     Step,
     StepByLoop,
     RunList,
     Replay,
     Monitor,
-    Invariants,
     Make,
     Commit,
     Event,
@@ -98,56 +106,121 @@ enum Call {
     RunThreads,
     ResumeThreads,
     WriteObject,
-    ReadObject,
     WriteLog,
     ReadLog,
     ReplayList,
     ReplayLog,
     LogList,
     MonitorLog,
+}
+
+/// One that takes no program.
+enum Lone {
+    Parse,
+    Check,
+    Compose,
+    Compile,
+    Enabled,
+    Effect,
+    Invariants,
+    ReadObject,
     InspectLog,
 }
 
-const SOURCES: [Call; 4] = [Call::Parse, Call::Check, Call::Compose, Call::Compile];
+/// A call, with the source of the program that it takes.
+enum What {
+    Of(Call, &'static str),
+    Alone(Lone),
+}
 
-const STEPS: [Call; 10] = [
-    Call::Verify,
-    Call::Enabled,
-    Call::Effect,
-    Call::Propose,
-    Call::Step,
-    Call::StepByLoop,
-    Call::RunList,
-    Call::Replay,
-    Call::Monitor,
-    Call::Invariants,
+/// How a call wants memory: bit by bit; with a reader's piece at once; or as a run, alone or on threads.
+enum Way {
+    Plain,
+    Reading,
+    Alone,
+    Threads,
+}
+
+/// The name of a call, how it wants memory, and the call.
+type Row = (&'static str, Way, What);
+
+static SOURCES: [Row; 4] = [
+    ("Parse", Way::Plain, What::Alone(Lone::Parse)),
+    ("Check", Way::Plain, What::Alone(Lone::Check)),
+    ("Compose", Way::Plain, What::Alone(Lone::Compose)),
+    ("Compile", Way::Plain, What::Alone(Lone::Compile)),
 ];
 
-const BOARDS: [Call; 5] = [
-    Call::Make,
-    Call::Commit,
-    Call::Event,
-    Call::Resume,
-    Call::ResumeRoom,
+static STEPS: [Row; 10] = [
+    ("Verify", Way::Plain, What::Of(Call::Verify, SEQUENCES)),
+    ("Enabled", Way::Plain, What::Alone(Lone::Enabled)),
+    ("Effect", Way::Plain, What::Alone(Lone::Effect)),
+    ("Propose", Way::Plain, What::Of(Call::Propose, GAME)),
+    ("Step", Way::Plain, What::Of(Call::Step, GAME)),
+    ("StepByLoop", Way::Plain, What::Of(Call::StepByLoop, SUMS)),
+    ("RunList", Way::Plain, What::Of(Call::RunList, GAME)),
+    ("Replay", Way::Plain, What::Of(Call::Replay, COUNTER)),
+    ("Monitor", Way::Plain, What::Of(Call::Monitor, COUNTER)),
+    ("Invariants", Way::Plain, What::Alone(Lone::Invariants)),
 ];
 
-const RUNS: [Call; 4] = [
-    Call::RunAlone,
-    Call::ResumeAlone,
-    Call::RunThreads,
-    Call::ResumeThreads,
+static BOARDS: [Row; 5] = [
+    ("Make", Way::Plain, What::Of(Call::Make, GAME)),
+    ("Commit", Way::Plain, What::Of(Call::Commit, COUNTER)),
+    ("Event", Way::Plain, What::Of(Call::Event, COUNTER)),
+    ("Resume", Way::Plain, What::Of(Call::Resume, COUNTER)),
+    (
+        "ResumeRoom",
+        Way::Plain,
+        What::Of(Call::ResumeRoom, COUNTER),
+    ),
 ];
 
-const TEXTS: [Call; 9] = [
-    Call::WriteObject,
-    Call::ReadObject,
-    Call::WriteLog,
-    Call::ReadLog,
-    Call::ReplayList,
-    Call::ReplayLog,
-    Call::LogList,
-    Call::MonitorLog,
-    Call::InspectLog,
+static RUNS: [Row; 4] = [
+    ("RunAlone", Way::Alone, What::Of(Call::RunAlone, COUNTER)),
+    (
+        "ResumeAlone",
+        Way::Alone,
+        What::Of(Call::ResumeAlone, COUNTER),
+    ),
+    (
+        "RunThreads",
+        Way::Threads,
+        What::Of(Call::RunThreads, COUNTER),
+    ),
+    (
+        "ResumeThreads",
+        Way::Threads,
+        What::Of(Call::ResumeThreads, COUNTER),
+    ),
+];
+
+static TEXTS: [Row; 9] = [
+    (
+        "WriteObject",
+        Way::Plain,
+        What::Of(Call::WriteObject, THROWS),
+    ),
+    ("ReadObject", Way::Plain, What::Alone(Lone::ReadObject)),
+    ("WriteLog", Way::Plain, What::Of(Call::WriteLog, COUNTER)),
+    ("ReadLog", Way::Reading, What::Of(Call::ReadLog, COUNTER)),
+    (
+        "ReplayList",
+        Way::Reading,
+        What::Of(Call::ReplayList, COUNTER),
+    ),
+    (
+        "ReplayLog",
+        Way::Reading,
+        What::Of(Call::ReplayLog, COUNTER),
+    ),
+    ("LogList", Way::Reading, What::Of(Call::LogList, COUNTER)),
+    (
+        "MonitorLog",
+        Way::Reading,
+        What::Of(Call::MonitorLog, COUNTER),
+    ),
+    ("InspectLog", Way::Reading, What::Alone(Lone::InspectLog)),
 ];
 
 /// How much there is for what a test makes before a call and looks at after it.
@@ -163,21 +236,13 @@ const PIECE: usize = 65_536;
 const PART: usize = 32;
 
 /// How much the call is left in its so many-th turn: first nothing, and then, if it reads, what its reader takes and more.
-fn left(call: Call, turn: usize) -> Spare {
-    if matches!(call, Call::RunThreads | Call::ResumeThreads) {
-        return Spare::Bytes(grown(turn));
+fn left(way: &Way, turn: usize) -> Spare {
+    let steps = turn.saturating_mul(STEP);
+    match way {
+        Way::Threads => Spare::Bytes(grown(turn)),
+        Way::Reading if turn > 0 => Spare::Bytes(steps.saturating_add(PIECE)),
+        _ => Spare::Bytes(steps),
     }
-    let reads = matches!(
-        call,
-        Call::ReadLog
-            | Call::ReplayList
-            | Call::ReplayLog
-            | Call::LogList
-            | Call::MonitorLog
-            | Call::InspectLog
-    );
-    let least = if reads && turn > 0 { PIECE } else { 0 };
-    Spare::Bytes(turn.saturating_mul(STEP).saturating_add(least))
 }
 
 /// A step more with each turn, and later a part of it.
@@ -195,79 +260,104 @@ fn all_but(rt: &impl Abort, alloc: Global, spare: Spare) -> Hoard {
     Hoard::all_but(alloc, spare).expect(rt, "memory")
 }
 
-/// What comes of the call with so much memory.
+/// What comes of the call with so much memory. A program that it takes stays.
 fn called<H: Abort + Threads + Wait + Sync>(
     rt: &H,
     alloc: Global,
-    call: Call,
+    what: &What,
+    spare: Spare,
+) -> Came {
+    match what {
+        What::Of(call, source) => {
+            let program = made::program(rt, alloc, source, None);
+            let came = called_on(rt, alloc, call, &program, spare);
+            came.and(is_program(rt, alloc, &program, source))
+        }
+        What::Alone(call) => called_alone(rt, alloc, call, spare),
+    }
+}
+
+/// The same of a call that takes no program.
+fn called_alone(rt: &impl Abort, alloc: Global, call: &Lone, spare: Spare) -> Came {
+    match call {
+        Lone::Parse => sources::parsed(rt, alloc, spare),
+        Lone::Check => sources::checked(rt, alloc, spare),
+        Lone::Compose => sources::composed(rt, alloc, spare),
+        Lone::Compile => sources::compiled(rt, alloc, spare),
+        Lone::Enabled => steps::enabled(rt, alloc, spare),
+        Lone::Effect => steps::effect(rt, alloc, spare),
+        Lone::Invariants => steps::asked(rt, alloc, spare),
+        Lone::ReadObject => texts::object_read(rt, alloc, spare),
+        Lone::InspectLog => texts::log_inspected(rt, alloc, spare),
+    }
+}
+
+/// The same of one that takes this program.
+fn called_on<H: Abort + Threads + Wait + Sync>(
+    rt: &H,
+    alloc: Global,
+    call: &Call,
+    program: &Program,
     spare: Spare,
 ) -> Came {
     match call {
-        Call::Parse => sources::parsed(rt, alloc, spare),
-        Call::Check => sources::checked(rt, alloc, spare),
-        Call::Compose => sources::composed(rt, alloc, spare),
-        Call::Compile => sources::compiled(rt, alloc, spare),
-        Call::Verify => steps::verified(rt, alloc, spare),
-        Call::Enabled => steps::enabled(rt, alloc, spare),
-        Call::Effect => steps::effect(rt, alloc, spare),
-        Call::Propose => steps::proposed(rt, alloc, spare),
-        Call::Step => steps::stepped(rt, alloc, spare),
-        Call::StepByLoop => steps::folded(rt, alloc, spare),
-        Call::RunList => steps::run(rt, alloc, spare),
-        Call::Replay => steps::replayed(rt, alloc, spare),
-        Call::Monitor => steps::monitored(rt, alloc, spare),
-        Call::Invariants => steps::asked(rt, alloc, spare),
-        Call::Make => boards::made(rt, alloc, spare),
-        Call::Commit => boards::committed(rt, alloc, spare),
-        Call::Event => boards::answered(rt, alloc, spare),
-        Call::Resume => boards::resumed(rt, alloc, spare),
-        Call::ResumeRoom => boards::room_resumed(rt, alloc, spare),
-        Call::RunAlone => runs::alone(rt, alloc, spare),
-        Call::ResumeAlone => runs::resumed_alone(rt, alloc, spare),
-        Call::RunThreads => runs::on_threads(rt, alloc, spare),
-        Call::ResumeThreads => runs::resumed_on_threads(rt, alloc, spare),
-        Call::WriteObject => texts::object_written(rt, alloc, spare),
-        Call::ReadObject => texts::object_read(rt, alloc, spare),
-        Call::WriteLog => texts::log_written(rt, alloc, spare),
-        Call::ReadLog => texts::log_read(rt, alloc, spare),
-        Call::ReplayList => texts::list_replayed(rt, alloc, spare),
-        Call::ReplayLog => texts::log_replayed(rt, alloc, spare),
-        Call::LogList => texts::list_logged(rt, alloc, spare),
-        Call::MonitorLog => texts::log_monitored(rt, alloc, spare),
-        Call::InspectLog => texts::log_inspected(rt, alloc, spare),
+        Call::Verify => steps::verified(rt, alloc, program, spare),
+        Call::Propose => steps::proposed(rt, alloc, program, spare),
+        Call::Step => steps::stepped(rt, alloc, program, spare),
+        Call::StepByLoop => steps::folded(rt, alloc, program, spare),
+        Call::RunList => steps::run(rt, alloc, program, spare),
+        Call::Replay => steps::replayed(rt, alloc, program, spare),
+        Call::Monitor => steps::monitored(rt, alloc, program, spare),
+        Call::Make => boards::made(rt, alloc, program, spare),
+        Call::Commit => boards::committed(rt, alloc, program, spare),
+        Call::Event => boards::answered(rt, alloc, program, spare),
+        Call::Resume => boards::resumed(rt, alloc, program, spare),
+        Call::ResumeRoom => boards::room_resumed(rt, alloc, program, spare),
+        Call::RunAlone => runs::alone(rt, alloc, program, spare),
+        Call::ResumeAlone => runs::resumed_alone(rt, alloc, program, spare),
+        Call::RunThreads => runs::on_threads(rt, alloc, program, spare),
+        Call::ResumeThreads => runs::resumed_on_threads(rt, alloc, program, spare),
+        Call::WriteObject => texts::object_written(rt, alloc, program, spare),
+        Call::WriteLog => texts::log_written(rt, alloc, program, spare),
+        Call::ReadLog => texts::log_read(rt, alloc, program, spare),
+        Call::ReplayList => texts::list_replayed(rt, alloc, program, spare),
+        Call::ReplayLog => texts::log_replayed(rt, alloc, program, spare),
+        Call::LogList => texts::list_logged(rt, alloc, program, spare),
+        Call::MonitorLog => texts::log_monitored(rt, alloc, program, spare),
     }
 }
 
 /// The call is refused memory at least once, in each way in which it may be, and answers in the end.
-fn expect_answer<H: Abort + Threads + Wait + Sync>(rt: &H, alloc: Global, call: Call) {
+fn expect_answer<H: Abort + Threads + Wait + Sync>(rt: &H, alloc: Global, row: &Row) {
+    let (name, way, what) = row;
     let mut refusals = Refusals::NONE;
     for turn in 0..MOST {
-        match called(rt, alloc, call, left(call, turn)) {
+        match called(rt, alloc, what, left(way, turn)) {
             Came::Wanting(is_kept) => {
-                assert!(rt; is_kept, "{call:?}, in turn {turn}");
+                assert!(rt; is_kept, "{name}, in turn {turn}");
                 refusals.wanting = refusals.wanting.saturating_add(1);
             }
             Came::Unbegun(error, is_kept) => {
-                assert!(rt; is_kept, "{call:?}, in turn {turn}");
+                assert!(rt; is_kept, "{name}, in turn {turn}");
                 refusals = refusals.with(error);
             }
             Came::Answered(is_right) => {
                 assert!(rt;
-                    is_right && refusals.are_those_of(call),
-                    "{call:?}, {refusals:?}"
+                    is_right && refusals.are_those_of(way),
+                    "{name}, in turn {turn}"
                 );
                 return;
             }
         }
     }
-    panic!(rt; "{call:?} is refused memory each time");
+    panic!(rt; "{name} is refused memory each time");
 }
 
 /// The same of each of the calls, while all is held but what the tests work with: so a hoard takes little time.
-fn expect_answers<H: Abort + Threads + Wait + Sync>(rt: &H, alloc: Global, calls: &[Call]) {
+fn expect_answers<H: Abort + Threads + Wait + Sync>(rt: &H, alloc: Global, rows: &[Row]) {
     let held = all_but(rt, alloc, Spare::Bytes(AMPLE));
-    for call in calls {
-        expect_answer(rt, alloc, *call);
+    for row in rows {
+        expect_answer(rt, alloc, row);
     }
     drop(held);
 }
@@ -298,10 +388,10 @@ fn texts_are_refused_memory(rt: HostRuntime) {
 }
 
 /// Each of the calls answers with all the memory that there is.
-fn expect_ample<H: Abort + Threads + Wait + Sync>(rt: &H, alloc: Global, calls: &[Call]) {
-    for call in calls {
-        let came = called(rt, alloc, *call, Spare::All);
-        assert!(rt; matches!(came, Came::Answered(true)), "{call:?}: {came:?}");
+fn expect_ample<H: Abort + Threads + Wait + Sync>(rt: &H, alloc: Global, rows: &[Row]) {
+    for (name, _, what) in rows {
+        let came = called(rt, alloc, what, Spare::All);
+        assert!(rt; matches!(came, Came::Answered(true)), "{name}: {came:?}");
     }
 }
 

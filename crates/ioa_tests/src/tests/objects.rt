@@ -9,7 +9,7 @@ use std::alloc::Global;
 use std::process::Abort;
 
 /// An object of a composition `X`, whose component `A` has the output `go`, with a precondition that is true.
-const SMALLEST: [u8; 39] = [
+static SMALLEST: [u8; 39] = [
     0x7F, 0x49, 0x4F, 0x41, 0x01, 0, 0, 1, 0x58, 1, 0, 1, 0x41, 0, 0, 1, 0, 1, 2, 0x67, 0x6F, 0, 0,
     1, 0, 0, 0, 1, 1, 0, 1, 0, 0, 0, 0, 0, 0, 0, 0,
 ];
@@ -140,7 +140,7 @@ fn objects_are_whole(rt: HostRuntime) {
 /// A source, the version of its object, another one, and why the object is refused with that. The second version is that of objects with a
 /// loop: one without has it for nothing, and the first does not know a loop's first instruction, here the second one of the effect of `fold`,
 /// which is the fourth part.
-const VERSIONS: [(&str, u8, u8, ObjErr); 5] = [
+static VERSIONS: [(&str, u8, u8, ObjErr); 5] = [
     (COUNTER, 1, 2, ObjErr::Version),
     (STORE, 1, 2, ObjErr::Version),
     (SUMS, 2, 1, ObjErr::BadCode(3, 1)),
@@ -150,13 +150,13 @@ const VERSIONS: [(&str, u8, u8, ObjErr); 5] = [
 
 #[test]
 fn versions_are_needed(rt: HostRuntime) {
-    for (source, version, other, wanted) in VERSIONS {
+    for (source, version, other, wanted) in &VERSIONS {
         let mut bytes = object(&rt, rt.alloc(), source);
-        assert!(rt; bytes.get(4) == Some(&version), "{source}");
+        assert!(rt; bytes.get(4) == Some(version), "{source}");
         if let Some(byte) = bytes.get_mut(4) {
-            *byte = other;
+            *byte = *other;
         }
         let error = read_object(rt.alloc(), &bytes).err();
-        assert!(rt; error == Some(wanted), "{source}");
+        assert!(rt; error == Some(*wanted), "{source}");
     }
 }

@@ -7,7 +7,7 @@ ghost use Rattle.ioa_value.specs.Plain.{plain};
 use crate::tests::made::{action, parsed};
 use ioa_check::check;
 use ioa_rows::{column, columns};
-use ioa_value::{Action, Fault, Op, OutOfMemory, Ty, Types, Value, apply, print_action};
+use ioa_value::{Action, Op, Ty, Types, Value, apply, print_action};
 use std::alloc::Global;
 use std::process::Abort;
 
@@ -16,8 +16,9 @@ const DECLARED: &str = "type S = seq 3 of Int type T = tuple { a: Int, b: Int }"
 /// The type of pairs that is declared so, after Bool, Int and the sequences.
 const PAIR: Ty = Ty(3);
 
-/// Operators that give numbers, each with rows: an action that has its operands, and what it gives: its value, as an action's without a name, or its fault.
-const NUMBERS: [(Op, &str); 6] = [
+/// Operators, each with rows: an action that has its operands, and what it gives: its value, as an action's without a name, or its fault.
+static OPERATORS: [(Op, &str); 23] = [
+    // those that give numbers
     (
         Op::Add,
         "\
@@ -65,10 +66,7 @@ on(3, 0) | fault 2",
 on(7) | (-7)
 on(-9223372036854775808) | fault 1",
     ),
-];
-
-/// The same of operators that give truth values.
-const TRUTHS: [(Op, &str); 7] = [
+    // those that give truth values
     (
         Op::Lt,
         "\
@@ -107,10 +105,7 @@ on(2, 3) | (true)",
         "\
 on(false) | (true)",
     ),
-];
-
-/// The same of operators on sequences, and of one that makes a tuple.
-const VALUES: [(Op, &str); 10] = [
+    // those on sequences, and one that makes a tuple
     (
         Op::Len,
         "\
@@ -211,32 +206,25 @@ fn takes(types: &Types, op: Op, operands: &[Value]) -> bool
     }
 }
 
-/// The value, as an action's without a name, or the fault.
-fn told(alloc: Global, types: &Types, given: Result<Value, Fault>) -> Result<String, OutOfMemory> {
-    match given {
-        Ok(value) => {
-            let mut nameless = Action {
-                name: String::new(alloc),
-                vals: Vec::new(alloc),
-            };
-            nameless.vals.push(value)?;
-            print_action(alloc, types, &nameless)
-        }
-        Err(fault) => {
-            let number = fault.number();
-            Ok(format!(in alloc; "fault {number}")?)
-        }
-    }
+/// The value, as an action's without a name.
+fn nameless(rt: &impl Abort, alloc: Global, types: &Types, value: Value) -> String {
+    let mut vals = Vec::new(alloc);
+    vals.push(value).expect(rt, "memory");
+    let name = String::new(alloc);
+    print_action(alloc, types, &Action { name, vals }).expect(rt, "memory")
 }
 
-/// What an operator gives of the values of the action.
+/// What an operator gives of the values of the action, or the fault.
 fn given(rt: &impl Abort, alloc: Global, types: &Types, op: Op, operands: &str) -> String {
     let action = action(rt, alloc, types, operands);
-    if !takes(types, op, &action.vals) {
-        return String::new(alloc);
+    assert!(rt; takes(types, op, &action.vals));
+    match apply(alloc, types, op, &action.vals).expect(rt, "memory") {
+        Ok(value) => nameless(rt, alloc, types, value),
+        Err(fault) => {
+            let number = fault.number();
+            format!(in alloc; "fault {number}").expect(rt, "memory")
+        }
     }
-    let given = apply(alloc, types, op, &action.vals).expect(rt, "memory");
-    told(alloc, types, given).expect(rt, "memory")
 }
 
 fn expect_rows(rt: &impl Abort, alloc: Global, types: &Types, op: Op, rows: &str) {
@@ -250,25 +238,11 @@ fn expect_rows(rt: &impl Abort, alloc: Global, types: &Types, op: Op, rows: &str
     }
 }
 
-fn expect_values(rt: &impl Abort, alloc: Global, tables: &[(Op, &str)]) {
-    let source = parsed(rt, alloc, DECLARED.as_bytes());
-    let checked = check(alloc, source).expect(rt, "a checked source");
-    for (op, rows) in tables {
-        expect_rows(rt, alloc, checked.types(), *op, rows);
-    }
-}
-
-#[test]
-fn operators_give_numbers_and_faults(rt: HostRuntime) {
-    expect_values(&rt, rt.alloc(), &NUMBERS);
-}
-
-#[test]
-fn operators_give_truth_values(rt: HostRuntime) {
-    expect_values(&rt, rt.alloc(), &TRUTHS);
-}
-
 #[test]
 fn operators_give_values_and_faults(rt: HostRuntime) {
-    expect_values(&rt, rt.alloc(), &VALUES);
+    let source = parsed(&rt, rt.alloc(), DECLARED.as_bytes());
+    let checked = check(rt.alloc(), source).expect(&rt, "a checked source");
+    for (op, rows) in &OPERATORS {
+        expect_rows(&rt, rt.alloc(), checked.types(), *op, rows);
+    }
 }

@@ -38,7 +38,7 @@ composition One components A: Host crash down recover up";
 
 /// A source, a list of actions, and what is told of its run: how it ends, how many actions are performed, how many of them the trace
 /// shows, and each component's values, as those of an action; of a host the last one is whether it is up.
-const RUNS: [(&str, &str, &str); 10] = [
+static RUNS: [(&str, &str, &str); 10] = [
     (
         COUNTER,
         "tick(5)\ntick(6)\nreset\n",
@@ -132,20 +132,16 @@ fn reached(rt: &impl Abort, alloc: Global, source: &str, list: &str) -> String {
     told.expect(rt, "memory")
 }
 
-fn expect_runs(rt: &impl Abort, alloc: Global, rows: &[(&str, &str, &str)]) {
-    for (source, list, wanted) in rows {
-        let told = reached(rt, alloc, source, list);
+#[test]
+fn runs_reach_their_states(rt: HostRuntime) {
+    for (source, list, wanted) in &RUNS {
+        let told = reached(&rt, rt.alloc(), source, list);
         assert!(rt; told.as_str() == *wanted, "{told}");
     }
 }
 
-#[test]
-fn runs_reach_their_states(rt: HostRuntime) {
-    expect_runs(&rt, rt.alloc(), &RUNS);
-}
-
 /// An end, and how many actions are performed before it.
-const ENDS: [(End, usize); 4] = [
+static ENDS: [(End, usize); 4] = [
     (End::Done(3), 3),
     (End::NotAnAction(2), 2),
     (End::NotEnabled(1), 1),
@@ -154,8 +150,8 @@ const ENDS: [(End, usize); 4] = [
 
 #[test]
 fn ends_count_actions(rt: HostRuntime) {
-    for (end, count) in ENDS {
-        assert!(rt; end.performed() == count, "{end}");
+    for (end, count) in &ENDS {
+        assert!(rt; end.performed() == *count, "{end}");
     }
 }
 
@@ -163,7 +159,7 @@ fn ends_count_actions(rt: HostRuntime) {
 type Performers = (Option<usize>, usize, bool);
 
 /// A source, an action, and who performs it.
-const OWNERS: [(&str, &str, Performers); 7] = [
+static OWNERS: [(&str, &str, Performers); 7] = [
     (COUNTER, "tick(5)", (Some(0), 1, true)),
     (COUNTER, "reset", (None, 1, true)),
     (COUNTER, "tock", (None, 0, true)),
@@ -184,14 +180,10 @@ fn performers(rt: &impl Abort, alloc: Global, source: &str, text: &str) -> Perfo
     (owner, participants.len(), external)
 }
 
-fn expect_owners(rt: &impl Abort, alloc: Global, rows: &[(&str, &str, Performers)]) {
-    for (source, text, wanted) in rows {
-        let found = performers(rt, alloc, source, text);
-        assert!(rt; found == *wanted, "{text}");
-    }
-}
-
 #[test]
 fn actions_have_owners(rt: HostRuntime) {
-    expect_owners(&rt, rt.alloc(), &OWNERS);
+    for (source, text, wanted) in &OWNERS {
+        let found = performers(&rt, rt.alloc(), source, text);
+        assert!(rt; found == *wanted, "{text}");
+    }
 }

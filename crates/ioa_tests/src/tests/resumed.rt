@@ -1,6 +1,6 @@
 //! Runs that go on from logs.
 
-ghost use Rattle.std.specs.Prelude.{◌≡◌, IfOk, length};
+ghost use Rattle.std.specs.Prelude.{◌≡◌, length};
 
 use crate::tests::made;
 use crate::tests::reached::PUTS;
@@ -15,7 +15,7 @@ use ioa_run::{
 };
 use ioa_system::{Log, LogEntry};
 use ioa_value::Action;
-use std::alloc::{AllocError, Global};
+use std::alloc::Global;
 use std::process::Abort;
 use std::sync::Wait;
 use std::thread::Threads;
@@ -67,7 +67,7 @@ struct Case {
 }
 
 /// What is new is counted alone, also of the inputs; all else is of the whole history.
-const CASES: [Case; 6] = [
+static CASES: [Case; 6] = [
     Case {
         source: COUNTER,
         log: TICKED,
@@ -128,7 +128,7 @@ type Refused = (
 );
 
 /// Turns come first, then inputs, then a fault at the log's end, then its entries, and last its count.
-const REFUSED: [Refused; 17] = [
+static REFUSED: [Refused; 17] = [
     (COUNTER, ANOTHERS, 1, &[], RunErr::BadLog(0)),
     (COUNTER, MISCOUNTED, 1, &[], RunErr::BadLog(3)),
     (COUNTER, BOTH, 1, &[], RunErr::BadLog(0)),
@@ -202,15 +202,16 @@ const REFUSED: [Refused; 17] = [
     ),
 ];
 
-/// A source of words for each of the components, of which there are so many.
-pub fn seeded(alloc: Global, components: usize) -> Result<Vec<Seeded>, AllocError>
-    ensures { IfOk result (λ sources. length sources.items ≡ components) }
+/// A source of words for each of the program's components.
+pub fn seeded(rt: &impl Abort, alloc: Global, program: &Program) -> Vec<Seeded>
+    ensures { length result.items ≡ length program.now.members }
 {
     let mut sources = Vec::new(alloc);
-    for who in 0..components {
-        sources.push(Seeded::new([0; 32], who as u64))?;
+    for who in 0..program.members().len() {
+        let words = Seeded::new([0; 32], who as u64);
+        sources.push(words).expect(rt, "memory");
     }
-    Ok(sources)
+    sources
 }
 
 /// The run on one thread that goes on from the log.
@@ -222,7 +223,7 @@ fn alone(
     turns: u64,
     script: &[Action],
 ) -> Result<Outcome, RunErr> {
-    let words = seeded(alloc, program.members().len()).expect(rt, "memory");
+    let words = seeded(rt, alloc, program);
     resume_alone(alloc, program, log, turns, words, script)
 }
 
@@ -235,7 +236,7 @@ fn on_threads<H: Abort + Threads + Wait + Sync>(
     turns: u64,
     script: &[Action],
 ) -> Result<Outcome, RunErr> {
-    let words = seeded(alloc, program.members().len()).expect(rt, "memory");
+    let words = seeded(rt, alloc, program);
     resume_threads(rt, alloc, program, log, turns, words, script, &OpenGate)
 }
 
@@ -247,49 +248,47 @@ pub fn log_of(outcome: Outcome) -> Log {
     }
 }
 
-fn expect_case(rt: &impl Abort, alloc: Global, case: &Case) {
-    let program = made::program(rt, alloc, case.source, None);
-    let log = made::log(rt, alloc, program.types(), case.log);
-    let script = script(rt, alloc, program.types(), case.script);
-    let outcome = alone(rt, alloc, &program, &log, case.turns, &script).expect(rt, "a run");
-    let given = told_outcome(rt, alloc, program.types(), &outcome);
-    assert!(rt; given.as_str() == case.given, "{given}");
-    let reports = told_reports(rt, alloc, &outcome.reports);
-    assert!(rt; reports.as_str() == case.reports, "{reports}");
-    replay(alloc, &program, &log_of(outcome)).expect(rt, "a log of the program");
-}
-
 #[test]
 fn runs_go_on_from_logs(rt: HostRuntime) {
+    let alloc = rt.alloc();
     for case in &CASES {
-        expect_case(&rt, rt.alloc(), case);
+        let program = made::program(&rt, alloc, case.source, None);
+        let log = made::log(&rt, alloc, program.types(), case.log);
+        let script = script(&rt, alloc, program.types(), case.script);
+        let answer = alone(&rt, alloc, &program, &log, case.turns, &script);
+        let outcome = answer.expect(&rt, "a run");
+        expect_told(&rt, alloc, &program, &outcome, case.given, case.reports);
+        replay(alloc, &program, &log_of(outcome)).expect(&rt, "a log of the program");
     }
 }
 
-/// Whether it is refused for this.
-fn is_refused(answer: Result<Outcome, RunErr>, error: RunErr) -> bool {
-    match answer {
-        Ok(_) => false,
-        Err(other) => other == error,
-    }
+/// This is told of the run, and of its workers.
+fn expect_told(
+    rt: &impl Abort,
+    alloc: Global,
+    program: &Program,
+    outcome: &Outcome,
+    given: &str,
+    reports: &str,
+) {
+    let told = told_outcome(rt, alloc, program.types(), outcome);
+    assert!(rt; told.as_str() == given, "{told}");
+    let told = told_reports(rt, alloc, &outcome.reports);
+    assert!(rt; told.as_str() == reports, "{told}");
 }
 
 /// No run goes on from there, alone or on threads.
-fn expect_refused<H: Abort + Threads + Wait + Sync>(rt: &H, alloc: Global, row: &Refused) {
-    let (source, text, turns, inputs, error) = *row;
-    let program = made::program(rt, alloc, source, None);
-    let log = made::log(rt, alloc, program.types(), text);
-    let script = script(rt, alloc, program.types(), inputs);
-    let answer = alone(rt, alloc, &program, &log, turns, &script);
-    assert!(rt; is_refused(answer, error), "{text}");
-    let answer = on_threads(rt, alloc, &program, &log, turns, &script);
-    assert!(rt; is_refused(answer, error), "{text}");
-}
-
 #[test]
 fn other_logs_are_refused(rt: HostRuntime) {
-    for row in &REFUSED {
-        expect_refused(&rt, rt.alloc(), row);
+    let alloc = rt.alloc();
+    for (source, text, turns, inputs, error) in &REFUSED {
+        let program = made::program(&rt, alloc, source, None);
+        let log = made::log(&rt, alloc, program.types(), text);
+        let script = script(&rt, alloc, program.types(), inputs);
+        let answer = alone(&rt, alloc, &program, &log, *turns, &script);
+        assert!(rt; answer.err() == Some(*error), "{text}");
+        let answer = on_threads(&rt, alloc, &program, &log, *turns, &script);
+        assert!(rt; answer.err() == Some(*error), "{text}");
     }
 }
 
@@ -309,16 +308,16 @@ fn gone_on<H: Abort + Threads + Wait + Sync>(
     answer.expect(rt, "a run")
 }
 
+/// What is told of the workers of a run in which the counter ticked once.
+const ONE_TICK: &str =
+    "1 committed, 0 idle, 0 stale, TurnsDone; 0 committed, 1 idle, 0 stale, TurnsDone";
+
 /// The counter ticked once more, and what is told of the run ends so.
 fn expect_tick(rt: &impl Abort, alloc: Global, program: &Program, outcome: &Outcome, wanted: &str) {
     let given = told_outcome(rt, alloc, program.types(), outcome);
     assert!(rt; given.as_str().ends_with(wanted), "{given}");
     let reports = told_reports(rt, alloc, &outcome.reports);
-    assert!(rt;
-        reports.as_str()
-            == "1 committed, 0 idle, 0 stale, TurnsDone; 0 committed, 1 idle, 0 stale, TurnsDone",
-        "{reports}"
-    );
+    assert!(rt; reports.as_str() == ONE_TICK, "{reports}");
 }
 
 /// Goes on ten times for a turn, alone and on threads in turn.
@@ -376,16 +375,26 @@ fn the_protocol_goes_on(rt: HostRuntime) {
     let alloc = rt.alloc();
     let library = str::from_utf8(ioa_links::text()).expect(&rt, "a text");
     let program = made::program(&rt, alloc, library, Some("Stenning"));
-    let words = seeded(alloc, program.members().len()).expect(&rt, "memory");
-    let first = run_threads(&rt, alloc, &program, 200, words, &[], &OpenGate);
-    let log = log_of(first.expect(&rt, "a run"));
-    let second = on_threads(&rt, alloc, &program, &log, 50, &[]).expect(&rt, "a run");
-    let whole = log_of(second);
-    assert!(rt; whole.entries.len() > log.entries.len());
+    let whole = gone_on_from_a_run(&rt, alloc, &program);
     replay(alloc, &program, &whole).expect(&rt, "a log of the program");
     let fifo = made::program(&rt, alloc, library, Some("ReliableFifo"));
     let actions = actions(&rt, alloc, &whole.entries);
     monitor(alloc, &fifo, &actions).expect(&rt, "an accepted log");
+}
+
+/// The log of a run on threads that goes on from one, and has more entries.
+fn gone_on_from_a_run<H: Abort + Threads + Wait + Sync>(
+    rt: &H,
+    alloc: Global,
+    program: &Program,
+) -> Log {
+    let words = seeded(rt, alloc, program);
+    let first = run_threads(rt, alloc, program, 200, words, &[], &OpenGate);
+    let log = log_of(first.expect(rt, "a run"));
+    let second = on_threads(rt, alloc, program, &log, 50, &[]);
+    let whole = log_of(second.expect(rt, "a run"));
+    assert!(rt; whole.entries.len() > log.entries.len());
+    whole
 }
 
 /// Without actions before it a run goes on as it begins.
@@ -395,27 +404,18 @@ fn a_run_goes_on_from_nothing(rt: HostRuntime) {
     let library = str::from_utf8(ioa_links::text()).expect(&rt, "a text");
     let program = made::program(&rt, alloc, library, Some("AltBit"));
     let log = made::log(&rt, alloc, program.types(), EMPTY);
-    let first = begun(&rt, alloc, &program, 100);
+    let words = seeded(&rt, alloc, &program);
+    let first = run_alone(alloc, &program, 100, words, &[]).expect(&rt, "a run");
     let second = alone(&rt, alloc, &program, &log, 100, &[]).expect(&rt, "a run");
-    expect_same(&rt, alloc, &program, &first, &second);
-}
-
-/// The run on one thread that begins.
-fn begun(rt: &impl Abort, alloc: Global, program: &Program, turns: u64) -> Outcome {
-    let words = seeded(alloc, program.members().len()).expect(rt, "memory");
-    run_alone(alloc, program, turns, words, &[]).expect(rt, "a run")
-}
-
-/// The same is told of both, and of their workers.
-fn expect_same(
-    rt: &impl Abort,
-    alloc: Global,
-    program: &Program,
-    first: &Outcome,
-    second: &Outcome,
-) {
-    let told = told_outcome(rt, alloc, program.types(), first);
-    assert!(rt; told.as_str() == told_outcome(rt, alloc, program.types(), second).as_str());
-    let reports = told_reports(rt, alloc, &first.reports);
-    assert!(rt; reports.as_str() == told_reports(rt, alloc, &second.reports).as_str());
+    let types = program.types();
+    let wanted = told_outcome(&rt, alloc, types, &first);
+    let reports = told_reports(&rt, alloc, &first.reports);
+    expect_told(
+        &rt,
+        alloc,
+        &program,
+        &second,
+        wanted.as_str(),
+        reports.as_str(),
+    );
 }

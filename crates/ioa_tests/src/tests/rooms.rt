@@ -1,13 +1,19 @@
 //! Rooms: what is counted of each worker's turns, and what a run gives.
 
-ghost use Rattle.std.specs.Prelude.{◌≡◌, IfOk, IfSome};
+ghost use Rattle.std.specs.Prelude.{◌≡◌, IfOk};
+ghost use Rattle.ioa_value.specs.Actions.{act_of};
+ghost use Rattle.ioa_tree.specs.Steps as steps;
+ghost use Rattle.ioa_compile.specs.Tables.{tabled};
+ghost use Rattle.ioa_system.specs.Participants.{taken};
+ghost use Rattle.ioa_system.specs.Systems.{slot_types, types_of};
 
 use crate::tests::made::{action, program};
 use crate::tests::reached::{TWO, told_states};
 use crate::tests::schedules::told_entries;
 use ioa_compile::Program;
+use ioa_node::NodeState;
 use ioa_rows::COUNTER;
-use ioa_run::{Answer, Outcome, Plan, Planned, Report, Room, Verdict, Why};
+use ioa_run::{Answer, Board, Outcome, Plan, Planned, Report, Room, Verdict, Why};
 use ioa_system::participants;
 use ioa_value::{Action, Fault, OutOfMemory, Types};
 use std::alloc::Global;
@@ -100,7 +106,7 @@ type Walk = (
     &'static [Report],
 );
 
-const WALKS: [Walk; 2] = [
+static WALKS: [Walk; 2] = [
     (
         COUNTER,
         &["reset"],
@@ -119,32 +125,46 @@ const WALKS: [Walk; 2] = [
     ),
 ];
 
-/// The worker's plan for the action by the states as they are now, if it has one.
-fn planned<'p>(
+/// Equals of the states of the action's participants.
+fn copied(alloc: Global, board: &Board<'_>, action: &Action) -> Result<Vec<NodeState>, OutOfMemory>
+    ensures { IfOk result (λ states. types_of states.items ≡ taken (steps.participants (tabled board.now.program) (act_of action.now)) (slot_types board.now.program.members)) }
+{
+    let program = board.program();
+    let numbers = participants(alloc, program, action)?;
+    board.copy(&numbers)
+}
+
+/// The same, with ample memory.
+pub fn lent(rt: &impl Abort, alloc: Global, board: &Board<'_>, action: &Action) -> Vec<NodeState>
+    ensures { types_of result.items ≡ taken (steps.participants (tabled board.now.program) (act_of action.now)) (slot_types board.now.program.members) }
+{
+    copied(alloc, board, action).expect(rt, "memory")
+}
+
+/// The worker's plan for the action by the states as they are now, for which there is one.
+pub fn planned<'p>(
+    rt: &impl Abort,
     alloc: Global,
-    room: &Room<'p>,
+    board: &Board<'p>,
     who: usize,
     action: Action,
-) -> Result<Option<Plan<'p>>, OutOfMemory>
-    ensures { IfOk result (λ o. IfSome o (λ plan. (plan.program ≡ room.now.program) × (plan.who ≡ who))) }
+) -> Plan<'p>
+    ensures { (result.program ≡ board.now.program) × (result.who ≡ who) }
 {
-    let board = room.board();
-    let program = board.program();
-    let numbers = participants(alloc, program, &action)?;
-    let copied = board.copy(&numbers)?;
-    match Plan::make(alloc, program, who, action, copied)? {
-        Planned::Ready(plan) => Ok(Some(plan)),
-        _ => Ok(None),
+    let states = lent(rt, alloc, board, &action);
+    match Plan::make(alloc, board.program(), who, action, states).expect(rt, "memory") {
+        Planned::Ready(plan) => plan,
+        _ => panic!(rt; "no plan"),
     }
 }
 
-/// The same of the action that is spelled so, for which there is a plan.
+/// The same of the action that is spelled so.
 fn plan<'p>(rt: &impl Abort, alloc: Global, room: &Room<'p>, who: usize, text: &str) -> Plan<'p>
     ensures { (result.program ≡ room.now.program) × (result.who ≡ who) }
 {
-    let action = action(rt, alloc, room.board().program().types(), text);
-    let planned = planned(alloc, room, who, action).expect(rt, "memory");
-    planned.expect(rt, "a plan")
+    let board = room.board();
+    let action = action(rt, alloc, board.program().types(), text);
+    planned(rt, alloc, board, who, action)
 }
 
 fn answer(rt: &impl Abort, verdict: Verdict<'_>) -> Answer {
@@ -229,19 +249,15 @@ pub fn told_outcome(rt: &impl Abort, alloc: Global, types: &Types, outcome: &Out
     format!(in alloc; "{entries}{states}, {end}").expect(rt, "memory")
 }
 
-fn expect_walk(rt: &impl Abort, alloc: Global, walk: &Walk) {
-    let (source, texts, turns, moves, wanted, reports) = *walk;
-    let program = program(rt, alloc, source, None);
-    let script = script(rt, alloc, program.types(), texts);
-    let outcome = walked(rt, alloc, &program, &script, turns, moves);
-    let told = told_outcome(rt, alloc, program.types(), &outcome);
-    assert!(rt; told.as_str() == wanted, "{told}");
-    assert!(rt; outcome.reports.as_slice() == reports, "{source}");
-}
-
 #[test]
 fn rooms_count_turns(rt: HostRuntime) {
-    for walk in &WALKS {
-        expect_walk(&rt, rt.alloc(), walk);
+    let alloc = rt.alloc();
+    for (source, texts, turns, moves, wanted, reports) in &WALKS {
+        let program = program(&rt, alloc, source, None);
+        let script = script(&rt, alloc, program.types(), texts);
+        let outcome = walked(&rt, alloc, &program, &script, *turns, moves);
+        let told = told_outcome(&rt, alloc, program.types(), &outcome);
+        assert!(rt; told.as_str() == *wanted, "{told}");
+        assert!(rt; outcome.reports.as_slice() == *reports, "{source}");
     }
 }

@@ -1,16 +1,17 @@
 //! Runs on threads, whose workers are held at stops of their turns.
 
-ghost use Rattle.std.specs.Prelude.{◌≡◌, IfOk, length};
+ghost use Rattle.std.specs.Prelude.{◌≡◌, length};
 
 use crate::tests::made::program;
 use crate::tests::reached::{PUTS, TWO};
+use crate::tests::resumed::log_of;
 use crate::tests::rooms::{script, told_outcome};
 use ioa_compile::Program;
 use ioa_log::replay;
 use ioa_node::Words;
 use ioa_rows::{COUNTER, text};
 use ioa_run::{Gate, Outcome, Point, Report, RunErr, Why, run_alone, run_threads};
-use ioa_system::Log;
+use ioa_system::LogEntry;
 use std::alloc::{AllocError, Global};
 use std::fmt::Write;
 use std::process::Abort;
@@ -19,7 +20,7 @@ use std::thread::Threads;
 use std::time::{Clock, Duration};
 
 /// Where a worker may be held.
-#[derive(Clone, Copy, Debug, PartialEq, Eq)]
+#[derive(Clone, Copy, PartialEq, Eq)]
 enum Stop {
     /// At a point of its turns, to which it came so often before.
     At(usize, usize, Point),
@@ -68,12 +69,22 @@ impl<'a, R> Course<'a, R> {
     /// The stops in order, where somebody was held at each one where that is wanted, and nobody too long.
     fn kept(self) -> Option<Vec<Stop>> {
         let Reached { stops, is_late } = self.reached.into_inner();
-        if !is_late && self.holds.iter().all(|(held, _)| stops.contains(held)) {
+        if !is_late && were_held(&stops, self.holds) {
             Some(stops)
         } else {
             None
         }
     }
+}
+
+/// Whether somebody came to each stop at which one is to be held.
+fn were_held(stops: &[Stop], holds: &[Hold]) -> bool {
+    for (held, _) in holds {
+        if !stops.contains(held) {
+            return false;
+        }
+    }
+    true
 }
 
 impl<R: Wait + Clock> Course<'_, R> {
@@ -124,8 +135,13 @@ impl<R: Wait + Clock> Gate for Course<'_, R> {
 
 /// How often the worker of this number came to the point, by these stops.
 fn times(stops: &[Stop], who: usize, at: Point) -> usize {
-    let mut there = stops.iter().filter_map(|stop| point_of(*stop, who));
-    there.filter(|point| *point == at).count()
+    let mut count: usize = 0;
+    for stop in stops {
+        if point_of(*stop, who) == Some(at) {
+            count = count.saturating_add(1);
+        }
+    }
+    count
 }
 
 /// The point at which the stop is, where it is this worker's.
@@ -176,7 +192,6 @@ impl<R: Wait + Clock> Words for Asked<'_, R> {
 
 /// A run on threads: a source, how many turns each worker has, the components' words, the script, and the holds; of what it may give the
 /// logs, each with the states and the end, and the reports, where they are few; and each worker's points, in order.
-#[derive(Clone, Copy)]
 struct Case {
     source: &'static str,
     turns: u64,
@@ -199,7 +214,7 @@ automaton Fold(t: S) signature output tell(k: Int) states stable s: S := t; n: I
 transitions output tell pre k = n propose k := n eff n := 0; for y in s do n := n + y od
 composition One components A: Fold(append(append(empty(S), 2), 5)) crash down recover up";
 
-const CASES: [Case; 8] = [
+static CASES: [Case; 8] = [
     Case {
         source: SOLO,
         turns: 100,
@@ -331,7 +346,7 @@ composition Both components F: Full; G: Go",
 ];
 
 /// What is told of runs that could not begin, which the program does not print.
-const REFUSALS: [(RunErr, &str); 6] = [
+static REFUSALS: [(RunErr, &str); 6] = [
     (RunErr::TooManyTurns, "too many turns"),
     (RunErr::BadInput(2), "action 2 of the script is no input"),
     (
@@ -344,7 +359,7 @@ const REFUSALS: [(RunErr, &str); 6] = [
 ];
 
 /// Each worker has a plan before either one is committed.
-const OVERLAP: Case = Case {
+static OVERLAP: Case = Case {
     source: "
 automaton Go signature output go states n: Int transitions output go eff n := n + 1
 automaton Go2 signature output go2 states n: Int transitions output go2 eff n := n + 1
@@ -372,40 +387,48 @@ composition Both components G: Go; H: Go2",
     points: &["Turn Planned Committed ; Turn Planned Committed ; Turn Idle "],
 };
 
-/// While the first worker waits for its word of this number, the second one takes its turn.
-fn unlocked(holds: &'static [Hold]) -> Case {
-    Case {
-        source: "
+const DICE: &str = "
 automaton Dice(n: Int) signature output roll(d: Int) states k: Int transitions output roll pre k < 2 propose d := any(n) eff k := k + 1
 automaton Go signature output go states n: Int transitions output go eff n := n + 1
-composition Both components D: Dice(6); G: Go",
+composition Both components D: Dice(6); G: Go";
+
+/// While the first worker waits for a word, the second one takes its turn. The first word picks an entry, and the second one a value.
+static UNLOCKED: [Case; 2] = [
+    Case {
+        source: DICE,
         turns: 1,
         words: &[&[9, 17, 4]],
         script: &[],
-        holds,
+        holds: &[
+            (Stop::At(1, 0, Point::Turn), Stop::Word(0, 0)),
+            (Stop::Word(0, 0), Stop::At(1, 0, Point::Committed)),
+        ],
         logs: &["1 go; 0 roll(5), state(1), state(1), done after 2"],
         reports: &[
             "1 committed, 0 idle, 0 stale, TurnsDone; 1 committed, 0 idle, 0 stale, TurnsDone; 0 committed, 1 idle, 0 stale, TurnsDone",
         ],
         points: &["Turn Planned Committed ; Turn Planned Committed ; Turn Idle "],
-    }
-}
-
-/// The first word picks an entry, and the second one a value.
-const UNLOCKED: [&[Hold]; 2] = [
-    &[
-        (Stop::At(1, 0, Point::Turn), Stop::Word(0, 0)),
-        (Stop::Word(0, 0), Stop::At(1, 0, Point::Committed)),
-    ],
-    &[
-        (Stop::At(1, 0, Point::Turn), Stop::Word(0, 1)),
-        (Stop::Word(0, 1), Stop::At(1, 0, Point::Committed)),
-    ],
+    },
+    Case {
+        source: DICE,
+        turns: 1,
+        words: &[&[9, 17, 4]],
+        script: &[],
+        holds: &[
+            (Stop::At(1, 0, Point::Turn), Stop::Word(0, 1)),
+            (Stop::Word(0, 1), Stop::At(1, 0, Point::Committed)),
+        ],
+        logs: &["1 go; 0 roll(5), state(1), state(1), done after 2"],
+        reports: &[
+            "1 committed, 0 idle, 0 stale, TurnsDone; 1 committed, 0 idle, 0 stale, TurnsDone; 0 committed, 1 idle, 0 stale, TurnsDone",
+        ],
+        points: &["Turn Planned Committed ; Turn Planned Committed ; Turn Idle "],
+    },
 ];
 
 /// The environment pokes a component that has taken its last word, which then plans by its state as it is now: the roll that it has proposed
 /// is no longer enabled, or still is.
-const POKED: [Case; 2] = [
+static POKED: [Case; 2] = [
     Case {
         source: "
 automaton Dice(n: Int) signature output roll(d: Int); input poke states k: Int
@@ -446,7 +469,7 @@ composition One components D: Dice(6)",
     },
 ];
 
-const KEPT: Case = Case {
+static KEPT: Case = Case {
     source: "
 automaton Keep signature input roll(d: Int); output tell(s: Int); internal clear states sum: Int
 transitions input roll eff sum := sum + d output tell pre s = sum propose s := sum internal clear pre sum > 0 eff sum := 0
@@ -462,25 +485,28 @@ composition Kept components K: Keep",
     ],
 };
 
-/// A source of words for each of the components, of which there are so many.
-fn sources<'a, R: Wait + Clock>(
+/// A source of words for each of the program's components.
+fn sources<'a, R: Abort + Wait + Clock>(
+    rt: &R,
     alloc: Global,
+    program: &Program,
     case: &Case,
     course: &'a Course<'a, R>,
-    components: usize,
-) -> Result<Vec<Asked<'a, R>>, AllocError>
-    ensures { IfOk result (λ sources. length sources.items ≡ components) }
+) -> Vec<Asked<'a, R>>
+    ensures { length result.items ≡ length program.now.members }
 {
     let mut sources = Vec::new(alloc);
-    for who in 0..components {
-        sources.push(Asked {
-            words: case.words.get(who).copied().unwrap_or(&[]),
+    for who in 0..program.members().len() {
+        let words = case.words.get(who).copied().unwrap_or(&[]);
+        let source = Asked {
+            words,
             who,
             number: 0,
             course,
-        })?;
+        };
+        sources.push(source).expect(rt, "memory");
     }
-    Ok(sources)
+    sources
 }
 
 /// What the run on threads gives, unless somebody is held too long.
@@ -492,8 +518,7 @@ fn ran<R: Abort + Threads + Wait + Clock + Sync>(
 ) -> Outcome {
     let script = script(rt, alloc, program.types(), case.script);
     let course = Course::new(rt, alloc, case.holds);
-    let words = sources(alloc, case, &course, program.members().len());
-    let words = words.expect(rt, "memory");
+    let words = sources(rt, alloc, program, case, &course);
     let outcome = run_threads(rt, alloc, program, case.turns, words, &script, &course).expect(
         rt, "memory",
     );
@@ -553,36 +578,45 @@ fn ran_alone<R: Abort + Wait + Clock>(
 ) -> Outcome {
     let script = script(rt, alloc, program.types(), case.script);
     let course = Course::new(rt, alloc, case.holds);
-    let words = sources(alloc, case, &course, program.members().len());
-    let words = words.expect(rt, "memory");
+    let words = sources(rt, alloc, program, case, &course);
     run_alone(alloc, program, case.turns, words, &script).expect(rt, "memory")
-}
-
-fn told_report(alloc: Global, report: &Report) -> Result<String, AllocError> {
-    let Report {
-        committed,
-        idle,
-        stale,
-        why,
-    } = report;
-    format!(in alloc; "{committed} committed, {idle} idle, {stale} stale, {why:?}")
 }
 
 pub fn told_reports(rt: &impl Abort, alloc: Global, reports: &[Report]) -> String {
     let mut text = String::new(alloc);
     for report in reports {
-        let told = told_report(alloc, report).expect(rt, "memory");
         if !text.is_empty() {
             text.push_str("; ").expect(rt, "memory");
         }
-        text.push_str(told.as_str()).expect(rt, "memory");
+        let Report {
+            committed,
+            idle,
+            stale,
+            why,
+        } = report;
+        let told = write!(
+            text,
+            "{committed} committed, {idle} idle, {stale} stale, {why:?}"
+        );
+        told.expect(rt, "memory");
     }
     text
 }
 
+/// How many of the entries are the worker's of this number.
+fn performed_by(entries: &[LogEntry], who: usize) -> usize {
+    let mut count: usize = 0;
+    for entry in entries {
+        if entry.who == who {
+            count = count.saturating_add(1);
+        }
+    }
+    count
+}
+
 /// Whether the worker of this number did what its report counts, and has taken all turns if it says so.
 fn is_counted(outcome: &Outcome, turns: u64, who: usize, report: &Report) -> bool {
-    let performed = outcome.log.iter().filter(|entry| entry.who == who).count();
+    let performed = performed_by(&outcome.log, who);
     let taken = report.idle.saturating_add(report.stale);
     match report.why {
         Why::TurnsDone => {
@@ -595,8 +629,12 @@ fn is_counted(outcome: &Outcome, turns: u64, who: usize, report: &Report) -> boo
 
 /// Whether each worker did what its report counts, and has taken all turns if it says so.
 fn are_counted(outcome: &Outcome, turns: u64) -> bool {
-    let mut numbered = outcome.reports.iter().enumerate();
-    numbered.all(|(who, report)| is_counted(outcome, turns, who, report))
+    for (who, report) in outcome.reports.iter().enumerate() {
+        if !is_counted(outcome, turns, who, report) {
+            return false;
+        }
+    }
+    true
 }
 
 /// Whether the text is one of those that are wanted, if there are some.
@@ -626,11 +664,7 @@ fn expect_outcome(
         "{reports}"
     );
     assert!(rt; are_counted(&outcome, case.turns), "{reports}");
-    let log = Log {
-        entries: outcome.log,
-        end: outcome.end,
-    };
-    replay(alloc, program, &log).expect(rt, "a log of the program");
+    replay(alloc, program, &log_of(outcome)).expect(rt, "a log of the program");
 }
 
 /// Runs on threads, and compares what the run gives with what is wanted.
@@ -658,8 +692,8 @@ fn two_workers_overlap(rt: HostRuntime) {
 
 #[test]
 fn words_unlocked(rt: HostRuntime) {
-    for holds in UNLOCKED {
-        expect_case(&rt, rt.alloc(), &unlocked(holds));
+    for case in &UNLOCKED {
+        expect_case(&rt, rt.alloc(), case);
     }
     for case in &POKED {
         expect_case(&rt, rt.alloc(), case);

@@ -4,7 +4,7 @@ use ioa_lex::{Kind, Refusal, Terminal, Token, lex};
 use std::alloc::{AllocError, Global};
 use std::process::Abort;
 
-const WORDS: [(&str, Terminal); 47] = [
+static WORDS: [(&str, Terminal); 47] = [
     ("type", Terminal::Type),
     ("enum", Terminal::Enum),
     ("tuple", Terminal::Tuple),
@@ -54,7 +54,7 @@ const WORDS: [(&str, Terminal); 47] = [
     ("od", Terminal::Od),
 ];
 
-const SIGNS: [(&str, Terminal); 22] = [
+static SIGNS: [(&str, Terminal); 22] = [
     ("=", Terminal::Equal),
     ("~=", Terminal::NotEqual),
     ("<", Terminal::Less),
@@ -80,7 +80,7 @@ const SIGNS: [(&str, Terminal); 22] = [
 ];
 
 /// A text that is no list of tokens, and the line at fault.
-const REFUSED: [(&str, u32); 8] = [
+static REFUSED: [(&str, u32); 8] = [
     ("a\n#", 2),
     ("9223372036854775807 9223372036854775808", 1),
     (
@@ -94,37 +94,29 @@ const REFUSED: [(&str, u32); 8] = [
     ("\"", 1),
 ];
 
-fn is_terminal(rt: &impl Abort, alloc: Global, text: &str, terminal: Terminal) -> bool {
-    let tokens = lex(alloc, text.as_bytes()).expect(rt, "tokens");
-    match tokens.as_slice() {
-        [token] => matches!(&token.kind, Kind::Terminal(found) if *found == terminal),
-        _ => false,
-    }
-}
-
 fn expect_terminals(rt: &impl Abort, alloc: Global, rows: &[(&str, Terminal)]) {
     for (text, terminal) in rows {
-        let is_so = is_terminal(rt, alloc, text, *terminal);
+        let tokens = lex(alloc, text.as_bytes()).expect(rt, "tokens");
+        let is_so = match tokens.as_slice() {
+            [token] => matches!(&token.kind, Kind::Terminal(found) if found == terminal),
+            _ => false,
+        };
         assert!(rt; is_so, "{text}");
     }
 }
 
 #[test]
-fn words_are_tokens(rt: HostRuntime) {
+fn words_and_signs_are_tokens(rt: HostRuntime) {
     expect_terminals(&rt, rt.alloc(), &WORDS);
-}
-
-#[test]
-fn signs_are_tokens(rt: HostRuntime) {
     expect_terminals(&rt, rt.alloc(), &SIGNS);
 }
 
 #[test]
 fn other_texts_are_no_tokens(rt: HostRuntime) {
-    for (text, line) in REFUSED {
+    for (text, line) in &REFUSED {
         let found = lex(rt.alloc(), text.as_bytes());
         assert!(rt;
-            matches!(found, Err(Refusal::BadByte(at)) if at == line),
+            matches!(found, Err(Refusal::BadByte(at)) if at == *line),
             "{text}"
         );
     }

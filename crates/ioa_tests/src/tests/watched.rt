@@ -19,7 +19,7 @@ const ANOTHER: &str = "automaton Counter(start: Int) signature output tick(k: In
     input reset eff c := start composition Two components A: Counter(6)";
 
 /// What a counter that begins at 5 hears, and tells of it.
-const HEARD: [(&str, Option<End>); 6] = [
+static HEARD: [(&str, Option<End>); 6] = [
     ("tick(5)", None),
     ("other(1)", None),
     ("reset", None),
@@ -42,9 +42,9 @@ fn heard(
 fn hears_and_counts(rt: HostRuntime) {
     let program = program(&rt, rt.alloc(), COUNTER, None);
     let mut watcher = Watcher::start(rt.alloc(), &program).expect(&rt, "memory");
-    for (text, told) in HEARD {
+    for (text, told) in &HEARD {
         let action = action(&rt, rt.alloc(), program.types(), text);
-        assert!(rt; heard(&rt, &mut watcher, &action) == Ok(told), "{text}");
+        assert!(rt; heard(&rt, &mut watcher, &action) == Ok(*told), "{text}");
     }
     assert!(rt; watcher.names() == ["tick", "reset"].as_slice());
     assert!(rt; watcher.counts() == [1, 1].as_slice());
@@ -55,7 +55,7 @@ fn hears_and_counts(rt: HostRuntime) {
 }
 
 /// Streams that a counter from 5 and one from 6 hear, whether the first refusal is enough, and what is told.
-const STREAMS: [(&str, bool, &str); 7] = [
+static STREAMS: [(&str, bool, &str); 7] = [
     ("", false, "One: ok\nTwo: ok\n"),
     (
         "{\"act\":\"login(\\\"ann\\\")\",\"at\":1}\n{\"end\":\"done after 1\"}\n",
@@ -90,7 +90,7 @@ const STREAMS: [(&str, bool, &str); 7] = [
 ];
 
 /// Streams with a line that is none, why, and what is told before it.
-const WRONG: [(&str, LogErr, &str); 6] = [
+static WRONG: [(&str, LogErr, &str); 6] = [
     ("\n", LogErr::NotJson(1), ""),
     (
         "{\"act\":\"reset\"}\n{\"act\":\"reset\"",
@@ -166,19 +166,15 @@ fn watched(
 }
 
 #[test]
-fn tells_refusals_at_once(rt: HostRuntime) {
-    for (text, first, told) in STREAMS {
-        let (answer, written) = watched(&rt, rt.alloc(), text, first);
+fn tells_refusals_at_once_and_refuses_lines(rt: HostRuntime) {
+    for (text, first, told) in &STREAMS {
+        let (answer, written) = watched(&rt, rt.alloc(), text, *first);
         assert!(rt; answer == Ok(()), "{text}");
         assert!(rt; written.as_slice() == told.as_bytes(), "{text}");
     }
-}
-
-#[test]
-fn refuses_lines(rt: HostRuntime) {
-    for (text, error, told) in WRONG {
+    for (text, error, told) in &WRONG {
         let (answer, written) = watched(&rt, rt.alloc(), text, false);
-        assert!(rt; answer == Err(error), "{text}");
+        assert!(rt; answer == Err(*error), "{text}");
         assert!(rt; written.as_slice() == told.as_bytes(), "{text}");
     }
 }

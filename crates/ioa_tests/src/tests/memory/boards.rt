@@ -1,6 +1,6 @@
 //! Plans, commits and events with little memory.
 
-ghost use Rattle.std.specs.Prelude.{◌≡◌, IfOk, IfSome};
+ghost use Rattle.std.specs.Prelude.{◌≡◌};
 ghost use Rattle.ioa_value.specs.Actions.{act_of};
 ghost use Rattle.ioa_tree.specs.Steps as steps;
 ghost use Rattle.ioa_compile.specs.Tables.{tabled};
@@ -9,35 +9,17 @@ ghost use Rattle.ioa_system.specs.Systems.{slot_types, types_of};
 
 use crate::tests::made;
 use crate::tests::memory::hoard::Spare;
-use crate::tests::memory::lent::{is_log, is_program};
+use crate::tests::memory::lent::is_log;
 use crate::tests::memory::{Came, all_but};
 use crate::tests::resumed::TICKED;
-use crate::tests::rooms::script;
+use crate::tests::rooms::{lent, planned, script};
 use crate::tests::schedules::told_board;
 use ioa_compile::Program;
 use ioa_node::NodeState;
-use ioa_rows::{COUNTER, GAME};
 use ioa_run::{Answer, Board, Core, Event, Plan, Planned, Room, RunErr, Verdict};
-use ioa_system::{Log, participants};
 use ioa_value::{Action, OutOfMemory};
 use std::alloc::Global;
 use std::process::Abort;
-
-/// Equals of the states of the action's participants.
-fn copied(alloc: Global, board: &Board<'_>, action: &Action) -> Result<Vec<NodeState>, OutOfMemory>
-    ensures { IfOk result (λ states. types_of states.items ≡ taken (steps.participants (tabled board.now.program) (act_of action.now)) (slot_types board.now.program.members)) }
-{
-    let program = board.program();
-    let numbers = participants(alloc, program, action)?;
-    board.copy(&numbers)
-}
-
-/// The same, with ample memory.
-fn lent(rt: &impl Abort, alloc: Global, board: &Board<'_>, action: &Action) -> Vec<NodeState>
-    ensures { types_of result.items ≡ taken (steps.participants (tabled board.now.program) (act_of action.now)) (slot_types board.now.program.members) }
-{
-    copied(alloc, board, action).expect(rt, "memory")
-}
 
 /// The plan of worker 0 for the action by these states.
 fn made_of<'p>(
@@ -52,9 +34,8 @@ fn made_of<'p>(
 }
 
 /// A plan for a roll of the die.
-pub fn made(rt: &impl Abort, alloc: Global, spare: Spare) -> Came {
-    let program = made::program(rt, alloc, GAME, None);
-    let board = Board::start(alloc, &program).expect(rt, "memory");
+pub fn made(rt: &impl Abort, alloc: Global, program: &Program, spare: Spare) -> Came {
+    let board = Board::start(alloc, program).expect(rt, "memory");
     let action = made::action(rt, alloc, program.types(), "roll(5)");
     let states = lent(rt, alloc, &board, &action);
     let hoard = all_but(rt, alloc, spare);
@@ -63,27 +44,12 @@ pub fn made(rt: &impl Abort, alloc: Global, spare: Spare) -> Came {
     match answer {
         Ok(Planned::Ready(_)) => Came::Answered(true),
         Ok(_) => Came::Answered(false),
-        Err(_) => Came::Wanting(is_program(rt, alloc, &program, GAME)),
+        Err(_) => Came::Wanting(true),
     }
 }
 
 /// How many actions are committed, so that some want more room than was taken before.
 const COMMITS: usize = 12;
-
-/// The plan of worker 0 for its action by the board's states, if it has one.
-fn planned<'p>(
-    alloc: Global,
-    board: &Board<'p>,
-    action: Action,
-) -> Result<Option<Plan<'p>>, OutOfMemory>
-    ensures { IfOk result (λ o. IfSome o (λ plan. (plan.program ≡ board.now.program) × (plan.who ≡ 0))) }
-{
-    let states = copied(alloc, board, &action)?;
-    match Plan::make(alloc, board.program(), 0, action, states)? {
-        Planned::Ready(plan) => Ok(Some(plan)),
-        _ => Ok(None),
-    }
-}
 
 /// The counter's tick of this number, from 0.
 fn tick(rt: &impl Abort, alloc: Global, program: &Program, number: usize) -> Action {
@@ -102,8 +68,7 @@ fn commit(
 ) -> Came {
     let before = told_board(rt, alloc, board);
     let action = tick(rt, alloc, board.program(), number);
-    let plan = planned(alloc, board, action).expect(rt, "memory");
-    let plan = plan.expect(rt, "a plan");
+    let plan = planned(rt, alloc, board, 0, action);
     let hoard = all_but(rt, alloc, spare);
     let verdict = board.commit(0, plan);
     drop(hoard);
@@ -119,9 +84,8 @@ fn commit(
 }
 
 /// Commits of some actions, one after another, up to the first that is refused memory.
-pub fn committed(rt: &impl Abort, alloc: Global, spare: Spare) -> Came {
-    let program = made::program(rt, alloc, COUNTER, None);
-    let mut board = Board::start(alloc, &program).expect(rt, "memory");
+pub fn committed(rt: &impl Abort, alloc: Global, program: &Program, spare: Spare) -> Came {
+    let mut board = Board::start(alloc, program).expect(rt, "memory");
     let mut came = Came::Answered(true);
     for number in 0..COMMITS {
         if matches!(came, Came::Answered(true)) {
@@ -131,26 +95,7 @@ pub fn committed(rt: &impl Abort, alloc: Global, spare: Spare) -> Came {
     came
 }
 
-/// The event's answer, which with ample memory is this one; and what stands where it is refused memory.
-fn event(
-    rt: &impl Abort,
-    alloc: Global,
-    core: &mut Core<'_>,
-    event: Event,
-    wanted: Answer,
-    spare: Spare,
-) -> Came {
-    let before = told_board(rt, alloc, core.board());
-    let hoard = all_but(rt, alloc, spare);
-    let answer = core.event(event);
-    drop(hoard);
-    match answer {
-        Ok(answer) => Came::Answered(answer == wanted),
-        Err(_) => { Came::Wanting(told_board(rt, alloc, core.board()).as_str() == before.as_str()) }
-    }
-}
-
-/// The same, where the worker's next commit is answered so if the event is refused memory.
+/// The event's answer, which with ample memory is this one. Where it is refused memory, the board stays, and the worker's next commit is answered so.
 fn event_and_after(
     rt: &impl Abort,
     alloc: Global,
@@ -160,13 +105,17 @@ fn event_and_after(
     after: Answer,
     spare: Spare,
 ) -> Came {
-    match event(rt, alloc, core, given, wanted, spare) {
-        Came::Wanting(is_kept) => {
+    let before = told_board(rt, alloc, core.board());
+    let hoard = all_but(rt, alloc, spare);
+    let answer = core.event(given);
+    drop(hoard);
+    match answer {
+        Ok(answer) => Came::Answered(answer == wanted),
+        Err(_) => {
+            let is_kept = told_board(rt, alloc, core.board()).as_str() == before.as_str();
             let answer = core.event(Event::Commit(0)).expect(rt, "memory");
             Came::Wanting(is_kept && answer == after)
         }
-        Came::Answered(is_right) => Came::Answered(is_right),
-        Came::Unbegun(..) => Came::Answered(false),
     }
 }
 
@@ -199,13 +148,12 @@ fn ticked(
 }
 
 /// A worker that copies and commits: where its copy is refused memory it has no plan, and where its commit is it has the one from before.
-pub fn answered(rt: &impl Abort, alloc: Global, spare: Spare) -> Came {
-    let program = made::program(rt, alloc, COUNTER, None);
-    let mut core = Core::start(alloc, &program).expect(rt, "memory");
+pub fn answered(rt: &impl Abort, alloc: Global, program: &Program, spare: Spare) -> Came {
+    let mut core = Core::start(alloc, program).expect(rt, "memory");
     let mut came = Came::Answered(true);
     for number in 0..COMMITS {
         if matches!(came, Came::Answered(true)) {
-            let tick = tick(rt, alloc, &program, number);
+            let tick = tick(rt, alloc, program, number);
             came = ticked(rt, alloc, &mut core, tick, number, spare);
         }
     }
@@ -213,48 +161,43 @@ pub fn answered(rt: &impl Abort, alloc: Global, spare: Spare) -> Came {
 }
 
 /// A board that goes on from a log.
-pub fn resumed(rt: &impl Abort, alloc: Global, spare: Spare) -> Came {
-    let program = made::program(rt, alloc, COUNTER, None);
+pub fn resumed(rt: &impl Abort, alloc: Global, program: &Program, spare: Spare) -> Came {
     let log = made::log(rt, alloc, program.types(), TICKED);
     let hoard = all_but(rt, alloc, spare);
-    let answer = Board::resume(alloc, &program, &log);
+    let answer = Board::resume(alloc, program, &log);
     drop(hoard);
     match answer {
         Ok(board) => {
             let told = told_board(rt, alloc, &board);
             Came::Answered(told.as_str() == "0 tick(5); 0 tick(6); 1 reset, state(5)")
         }
-        Err(error) => refused(rt, alloc, &program, &log, error),
+        Err(error) => refused(error, is_log(rt, alloc, program.types(), &log, TICKED)),
     }
 }
 
-/// What came of it that is refused so, when this was lent.
-fn refused(rt: &impl Abort, alloc: Global, program: &Program, log: &Log, error: RunErr) -> Came {
+/// What came of it that is refused so, when what was lent is as it was.
+fn refused(error: RunErr, is_kept: bool) -> Came {
     match error {
-        RunErr::OutOfMemory => Came::Wanting(
-            is_program(rt, alloc, program, COUNTER)
-                && is_log(rt, alloc, program.types(), log, TICKED),
-        ),
+        RunErr::OutOfMemory => Came::Wanting(is_kept),
         _ => Came::Answered(false),
     }
 }
 
 /// A room that goes on from a log.
-pub fn room_resumed(rt: &impl Abort, alloc: Global, spare: Spare) -> Came {
-    let program = made::program(rt, alloc, COUNTER, None);
+pub fn room_resumed(rt: &impl Abort, alloc: Global, program: &Program, spare: Spare) -> Came {
     let log = made::log(rt, alloc, program.types(), TICKED);
     let inputs = script(rt, alloc, program.types(), &["reset"]);
     let hoard = all_but(rt, alloc, spare);
-    let answer = Room::resume(alloc, &program, &log, &inputs, 3);
+    let answer = Room::resume(alloc, program, &log, &inputs, 3);
     drop(hoard);
     match answer {
         Ok(room) => {
             let told = told_board(rt, alloc, room.board());
             Came::Answered(
                 told.as_str() == "0 tick(5); 0 tick(6); 1 reset, state(5)"
-                    && room.is_of(&program, &inputs, 3, &log.entries),
+                    && room.is_of(program, &inputs, 3, &log.entries),
             )
         }
-        Err(error) => refused(rt, alloc, &program, &log, error),
+        Err(error) => refused(error, is_log(rt, alloc, program.types(), &log, TICKED)),
     }
 }

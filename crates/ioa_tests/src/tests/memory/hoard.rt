@@ -20,7 +20,7 @@ const APART: usize = 2048;
 const MARK: usize = 24_301;
 
 /// How much memory is left to a call.
-#[derive(Clone, Copy, Debug)]
+#[derive(Clone, Copy)]
 pub enum Spare {
     /// So many bytes.
     Bytes(usize),

@@ -2,16 +2,15 @@
 
 use crate::tests::made;
 use crate::tests::memory::hoard::Spare;
-use crate::tests::memory::lent::{is_log, is_program};
+use crate::tests::memory::lent::is_log;
 use crate::tests::memory::{Came, all_but};
 use crate::tests::resumed::{TICKED, log_of, seeded};
 use crate::tests::rooms::told_outcome;
 use crate::tests::threads::told_reports;
 use ioa_compile::Program;
 use ioa_log::replay;
-use ioa_rows::COUNTER;
 use ioa_run::{
-    OpenGate, Outcome, RunErr, Why, resume_alone, resume_threads, run_alone, run_threads,
+    OpenGate, Outcome, Report, RunErr, Why, resume_alone, resume_threads, run_alone, run_threads,
 };
 use ioa_system::Log;
 use std::alloc::Global;
@@ -47,7 +46,7 @@ fn judged_resumed(
     }
 }
 
-/// What came of a run that does this with ample memory. Its log is accepted, whatever became of its workers, and the program stays.
+/// What came of a run that does this with ample memory. Its log is accepted, whatever became of its workers.
 fn judged(
     rt: &impl Abort,
     alloc: Global,
@@ -55,19 +54,22 @@ fn judged(
     answer: Result<Outcome, RunErr>,
     given: &str,
 ) -> Came {
-    let is_kept = is_program(rt, alloc, program, COUNTER);
     match answer {
-        Ok(outcome) => performed(rt, alloc, program, outcome, given, is_kept),
-        Err(error) => unbegun(error, is_kept),
+        Ok(outcome) => performed(rt, alloc, program, outcome, given),
+        Err(RunErr::OutOfMemory) => Came::Unbegun(RunErr::OutOfMemory, true),
+        Err(RunErr::Threads) => Came::Unbegun(RunErr::Threads, true),
+        Err(_) => Came::Answered(false),
     }
 }
 
-/// What came of a run that did not begin.
-fn unbegun(error: RunErr, is_kept: bool) -> Came {
-    match error {
-        RunErr::OutOfMemory | RunErr::Threads => Came::Unbegun(error, is_kept),
-        _ => Came::Answered(false),
+/// Whether a worker ended for want of memory.
+fn lacks_memory(reports: &[Report]) -> bool {
+    for report in reports {
+        if report.why == Why::Memory {
+            return true;
+        }
     }
+    false
 }
 
 /// What came of a run that gives this.
@@ -77,18 +79,14 @@ fn performed(
     program: &Program,
     outcome: Outcome,
     given: &str,
-    is_kept: bool,
 ) -> Came {
-    let is_short = outcome
-        .reports
-        .iter()
-        .any(|report| report.why == Why::Memory);
+    let is_short = lacks_memory(&outcome.reports);
     let is_whole = is_as_given(rt, alloc, program, &outcome, given);
     let is_log = replay(alloc, program, &log_of(outcome)).is_ok();
     if is_short {
-        Came::Wanting(is_log && is_kept)
+        Came::Wanting(is_log)
     } else {
-        Came::Answered(is_log && is_kept && is_whole)
+        Came::Answered(is_log && is_whole)
     }
 }
 
@@ -105,44 +103,46 @@ fn is_as_given(
     reports.as_str() == REPORTS && told.as_str() == given
 }
 
-pub fn alone(rt: &impl Abort, alloc: Global, spare: Spare) -> Came {
-    let program = made::program(rt, alloc, COUNTER, None);
-    let words = seeded(alloc, program.members().len()).expect(rt, "memory");
+pub fn alone(rt: &impl Abort, alloc: Global, program: &Program, spare: Spare) -> Came {
+    let words = seeded(rt, alloc, program);
     let hoard = all_but(rt, alloc, spare);
-    let answer = run_alone(alloc, &program, TURNS, words, &[]);
+    let answer = run_alone(alloc, program, TURNS, words, &[]);
     drop(hoard);
-    judged(rt, alloc, &program, answer, RUN)
+    judged(rt, alloc, program, answer, RUN)
 }
 
-pub fn resumed_alone(rt: &impl Abort, alloc: Global, spare: Spare) -> Came {
-    let program = made::program(rt, alloc, COUNTER, None);
+pub fn resumed_alone(rt: &impl Abort, alloc: Global, program: &Program, spare: Spare) -> Came {
     let log = made::log(rt, alloc, program.types(), TICKED);
-    let words = seeded(alloc, program.members().len()).expect(rt, "memory");
+    let words = seeded(rt, alloc, program);
     let hoard = all_but(rt, alloc, spare);
-    let answer = resume_alone(alloc, &program, &log, TURNS, words, &[]);
+    let answer = resume_alone(alloc, program, &log, TURNS, words, &[]);
     drop(hoard);
-    judged_resumed(rt, alloc, &program, &log, answer)
+    judged_resumed(rt, alloc, program, &log, answer)
 }
 
-pub fn on_threads<H: Abort + Threads + Wait + Sync>(rt: &H, alloc: Global, spare: Spare) -> Came {
-    let program = made::program(rt, alloc, COUNTER, None);
-    let words = seeded(alloc, program.members().len()).expect(rt, "memory");
+pub fn on_threads<H: Abort + Threads + Wait + Sync>(
+    rt: &H,
+    alloc: Global,
+    program: &Program,
+    spare: Spare,
+) -> Came {
+    let words = seeded(rt, alloc, program);
     let hoard = all_but(rt, alloc, spare);
-    let answer = run_threads(rt, alloc, &program, TURNS, words, &[], &OpenGate);
+    let answer = run_threads(rt, alloc, program, TURNS, words, &[], &OpenGate);
     drop(hoard);
-    judged(rt, alloc, &program, answer, RUN)
+    judged(rt, alloc, program, answer, RUN)
 }
 
 pub fn resumed_on_threads<H: Abort + Threads + Wait + Sync>(
     rt: &H,
     alloc: Global,
+    program: &Program,
     spare: Spare,
 ) -> Came {
-    let program = made::program(rt, alloc, COUNTER, None);
     let log = made::log(rt, alloc, program.types(), TICKED);
-    let words = seeded(alloc, program.members().len()).expect(rt, "memory");
+    let words = seeded(rt, alloc, program);
     let hoard = all_but(rt, alloc, spare);
-    let answer = resume_threads(rt, alloc, &program, &log, TURNS, words, &[], &OpenGate);
+    let answer = resume_threads(rt, alloc, program, &log, TURNS, words, &[], &OpenGate);
     drop(hoard);
-    judged_resumed(rt, alloc, &program, &log, answer)
+    judged_resumed(rt, alloc, program, &log, answer)
 }

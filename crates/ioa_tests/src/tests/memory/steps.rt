@@ -1,47 +1,43 @@
 //! Parts of code, steps, and whole lists and logs, with little memory.
 
 use crate::tests::code::{
-    BOOLS, DIFFERENCE, EQUALITY, SEQUENCES, SUMMING, changed, changing, copied, holds, looping,
-    numbered, verdict,
+    DIFFERENCE, SUMMING, changed, changing, comparing, copied, holds, looping, numbered,
 };
 use crate::tests::drawn::{Given, proposing};
 use crate::tests::made;
 use crate::tests::memory::hoard::Spare;
 use crate::tests::memory::lent::{are_actions, is_log, is_program};
 use crate::tests::memory::{Came, all_but};
-use crate::tests::objects::SUMS;
 use crate::tests::reached::told_states;
 use crate::tests::resumed::TICKED;
 use crate::tests::rooms::script;
 use ioa_check::check;
-use ioa_code::{CodeErr, PartKind};
+use ioa_code::CodeErr;
 use ioa_compile::{Program, compile};
 use ioa_compose::{Composition, compose};
 use ioa_log::{Broken, LogErr, MonitorErr, invariants, monitor, replay};
-use ioa_node::{NodeState, propose};
-use ioa_rows::{COUNTER, GAME};
+use ioa_node::propose;
 use ioa_system::{End, Run, Step, System, run_list};
 use ioa_value::Value;
 use std::alloc::Global;
 use std::process::Abort;
 
 /// The code of a loop that adds the items of a sequence to a number.
-pub fn verified(rt: &impl Abort, alloc: Global, spare: Spare) -> Came {
-    let program = made::program(rt, alloc, SEQUENCES, None);
+pub fn verified(rt: &impl Abort, alloc: Global, program: &Program, spare: Spare) -> Came {
     let hoard = all_but(rt, alloc, spare);
     let answer = looping(alloc, program.types(), SUMMING);
     drop(hoard);
     match answer {
         Ok(code) => Came::Answered(code.bound() == 20),
-        Err(CodeErr::OutOfMemory) => Came::Wanting(is_program(rt, alloc, &program, SEQUENCES)),
+        Err(CodeErr::OutOfMemory) => Came::Wanting(true),
         Err(_) => Came::Answered(false),
     }
 }
 
 /// A precondition of a variable and an argument.
 pub fn enabled(rt: &impl Abort, alloc: Global, spare: Spare) -> Came {
-    let types = made::basic(alloc).expect(rt, "memory");
-    let code = verdict(alloc, &types, PartKind::Pre, EQUALITY, BOOLS).expect(rt, "a precondition");
+    let types = made::basic(rt, alloc);
+    let code = comparing(rt, alloc, &types);
     let state = numbered(rt, alloc, &types, 5);
     let kept = copied(rt, alloc, &state);
     let hoard = all_but(rt, alloc, spare);
@@ -55,8 +51,8 @@ pub fn enabled(rt: &impl Abort, alloc: Global, spare: Spare) -> Came {
 
 /// An effect that lessens a variable by an argument.
 pub fn effect(rt: &impl Abort, alloc: Global, spare: Spare) -> Came {
-    let types = made::basic(alloc).expect(rt, "memory");
-    let code = changing(rt, alloc, &types, DIFFERENCE);
+    let types = made::basic(rt, alloc);
+    let code = changing(rt, alloc, &types, &DIFFERENCE);
     let state = numbered(rt, alloc, &types, 5);
     let kept = copied(rt, alloc, &state);
     let wanted = numbered(rt, alloc, &types, -2);
@@ -71,9 +67,8 @@ pub fn effect(rt: &impl Abort, alloc: Global, spare: Spare) -> Came {
 }
 
 /// A proposal by a word, which a refusal may have taken.
-pub fn proposed(rt: &impl Abort, alloc: Global, spare: Spare) -> Came {
-    let program = made::program(rt, alloc, GAME, None);
-    let (code, state) = proposing(&program, 0, 0).expect(rt, "a proposal");
+pub fn proposed(rt: &impl Abort, alloc: Global, program: &Program, spare: Spare) -> Came {
+    let (code, state) = proposing(program, 0, 0).expect(rt, "a proposal");
     let kept = copied(rt, alloc, state);
     let mut words = Given { words: &[17, 4] };
     let hoard = all_but(rt, alloc, spare);
@@ -89,20 +84,14 @@ pub fn proposed(rt: &impl Abort, alloc: Global, spare: Spare) -> Came {
     }
 }
 
-/// The values of the states.
-fn told(rt: &impl Abort, alloc: Global, program: &Program, states: &[NodeState]) -> String {
-    told_states(rt, alloc, program.types(), states)
-}
-
 /// A step of two components.
-pub fn stepped(rt: &impl Abort, alloc: Global, spare: Spare) -> Came {
-    let program = made::program(rt, alloc, GAME, None);
+pub fn stepped(rt: &impl Abort, alloc: Global, program: &Program, spare: Spare) -> Came {
     let action = made::action(rt, alloc, program.types(), "roll(5)");
-    let mut system = System::start(alloc, &program).expect(rt, "memory");
+    let mut system = System::start(alloc, program).expect(rt, "memory");
     let hoard = all_but(rt, alloc, spare);
     let answer = system.step(&action);
     drop(hoard);
-    let now = told(rt, alloc, &program, system.states());
+    let now = told_states(rt, alloc, program.types(), system.states());
     match answer {
         Ok(step) => Came::Answered(
             step == Step::Next && now.as_str() == ", state(1, true), state(5)",
@@ -112,9 +101,8 @@ pub fn stepped(rt: &impl Abort, alloc: Global, spare: Spare) -> Came {
 }
 
 /// A step whose effect is a loop over two items.
-pub fn folded(rt: &impl Abort, alloc: Global, spare: Spare) -> Came {
-    let program = made::program(rt, alloc, SUMS, None);
-    let mut system = System::start(alloc, &program).expect(rt, "memory");
+pub fn folded(rt: &impl Abort, alloc: Global, program: &Program, spare: Spare) -> Came {
+    let mut system = System::start(alloc, program).expect(rt, "memory");
     for action in &script(rt, alloc, program.types(), &["put(2)", "put(5)"]) {
         assert!(rt; system.step(action).expect(rt, "memory") == Step::Next);
     }
@@ -122,7 +110,7 @@ pub fn folded(rt: &impl Abort, alloc: Global, spare: Spare) -> Came {
     let hoard = all_but(rt, alloc, spare);
     let answer = system.step(&fold);
     drop(hoard);
-    let now = told(rt, alloc, &program, system.states());
+    let now = told_states(rt, alloc, program.types(), system.states());
     match answer {
         Ok(step) => Came::Answered(step == Step::Next && now.as_str() == ", state(S[], 7)"),
         Err(_) => Came::Wanting(now.as_str() == ", state(S[2, 5], 0)"),
@@ -130,26 +118,22 @@ pub fn folded(rt: &impl Abort, alloc: Global, spare: Spare) -> Came {
 }
 
 /// What some actions of the game come to.
-const PLAYED: &[&str] = &["roll(5)", "down", "roll(1)"];
+static PLAYED: [&str; 3] = ["roll(5)", "down", "roll(1)"];
 
 /// A list whose last action is not enabled.
-pub fn run(rt: &impl Abort, alloc: Global, spare: Spare) -> Came {
-    let program = made::program(rt, alloc, GAME, None);
-    let actions = script(rt, alloc, program.types(), PLAYED);
+pub fn run(rt: &impl Abort, alloc: Global, program: &Program, spare: Spare) -> Came {
+    let actions = script(rt, alloc, program.types(), &PLAYED);
     let hoard = all_but(rt, alloc, spare);
-    let answer = run_list(alloc, &program, &actions);
+    let answer = run_list(alloc, program, &actions);
     drop(hoard);
     match answer {
-        Ok(run) => Came::Answered(is_played(rt, alloc, &program, &run)),
-        Err(_) => Came::Wanting(
-            is_program(rt, alloc, &program, GAME)
-                && are_actions(rt, alloc, program.types(), &actions, PLAYED),
-        ),
+        Ok(run) => Came::Answered(is_played(rt, alloc, program, &run)),
+        Err(_) => Came::Wanting(are_actions(rt, alloc, program.types(), &actions, &PLAYED)),
     }
 }
 
 fn is_played(rt: &impl Abort, alloc: Global, program: &Program, run: &Run) -> bool {
-    let states = told(rt, alloc, program, &run.states);
+    let states = told_states(rt, alloc, program.types(), &run.states);
     run.performed == 2
         && run.end == End::NotEnabled(2)
         && run.trace.len() == 2
@@ -157,14 +141,12 @@ fn is_played(rt: &impl Abort, alloc: Global, program: &Program, run: &Run) -> bo
 }
 
 /// The log of the counter's run.
-pub fn replayed(rt: &impl Abort, alloc: Global, spare: Spare) -> Came {
-    let program = made::program(rt, alloc, COUNTER, None);
+pub fn replayed(rt: &impl Abort, alloc: Global, program: &Program, spare: Spare) -> Came {
     let log = made::log(rt, alloc, program.types(), TICKED);
     let hoard = all_but(rt, alloc, spare);
-    let answer = replay(alloc, &program, &log);
+    let answer = replay(alloc, program, &log);
     drop(hoard);
-    let is_kept = is_program(rt, alloc, &program, COUNTER)
-        && is_log(rt, alloc, program.types(), &log, TICKED);
+    let is_kept = is_log(rt, alloc, program.types(), &log, TICKED);
     match answer {
         Ok(run) => Came::Answered(run.end == End::Done(3) && run.performed == 3 && is_kept),
         Err(LogErr::OutOfMemory) => Came::Wanting(is_kept),
@@ -173,19 +155,21 @@ pub fn replayed(rt: &impl Abort, alloc: Global, spare: Spare) -> Came {
 }
 
 /// Actions of which the specification does not accept the third one.
-const MONITORED: &[&str] = &["tick(5)", "other", "tick(7)"];
+static MONITORED: [&str; 3] = ["tick(5)", "other", "tick(7)"];
 
-pub fn monitored(rt: &impl Abort, alloc: Global, spare: Spare) -> Came {
-    let program = made::program(rt, alloc, COUNTER, None);
-    let actions = script(rt, alloc, program.types(), MONITORED);
+pub fn monitored(rt: &impl Abort, alloc: Global, program: &Program, spare: Spare) -> Came {
+    let actions = script(rt, alloc, program.types(), &MONITORED);
     let hoard = all_but(rt, alloc, spare);
-    let answer = monitor(alloc, &program, &actions);
+    let answer = monitor(alloc, program, &actions);
     drop(hoard);
     match answer {
-        Err(MonitorErr::OutOfMemory) => Came::Wanting(
-            is_program(rt, alloc, &program, COUNTER)
-                && are_actions(rt, alloc, program.types(), &actions, MONITORED),
-        ),
+        Err(MonitorErr::OutOfMemory) => Came::Wanting(are_actions(
+            rt,
+            alloc,
+            program.types(),
+            &actions,
+            &MONITORED,
+        )),
         answer => Came::Answered(
             answer
                 == Err(MonitorErr::At {

@@ -13,7 +13,6 @@ use ioa_log::{
     replay_log, write_log,
 };
 use ioa_object::{ObjErr, read_object, write_object};
-use ioa_rows::COUNTER;
 use ioa_system::End;
 use std::alloc::Global;
 use std::process::Abort;
@@ -27,14 +26,13 @@ fn object(rt: &impl Abort, alloc: Global) -> Vec<u8> {
     write_object(alloc, &program).expect(rt, "memory")
 }
 
-pub fn object_written(rt: &impl Abort, alloc: Global, spare: Spare) -> Came {
-    let program = made::program(rt, alloc, THROWS, None);
+pub fn object_written(rt: &impl Abort, alloc: Global, program: &Program, spare: Spare) -> Came {
     let hoard = all_but(rt, alloc, spare);
-    let answer = write_object(alloc, &program);
+    let answer = write_object(alloc, program);
     drop(hoard);
     match answer {
         Ok(bytes) => Came::Answered(bytes.as_slice() == object(rt, alloc).as_slice()),
-        Err(_) => Came::Wanting(is_program(rt, alloc, &program, THROWS)),
+        Err(_) => Came::Wanting(true),
     }
 }
 
@@ -65,28 +63,16 @@ fn refused(error: LogErr, is_kept: bool) -> Came {
     }
 }
 
-/// What came of a call on the counter that answers so with ample memory, and writes this.
-fn judged(
-    rt: &impl Abort,
-    alloc: Global,
-    program: &Program,
-    output: Counted<Vec<u8>>,
-    answer: Result<End, LogErr>,
-    wanted: (End, &str),
-) -> Came {
+/// What came of a call that answers so with ample memory, and writes this.
+fn judged(output: Counted<Vec<u8>>, answer: Result<End, LogErr>, wanted: (End, &str)) -> Came {
     let written = output.into_inner();
-    let is_kept = is_program(rt, alloc, program, COUNTER);
     match answer {
-        Ok(end) => {
-            let is_wanted = end == wanted.0 && written.as_slice() == wanted.1.as_bytes();
-            Came::Answered(is_wanted && is_kept)
-        }
-        Err(error) => refused(error, written.is_empty() && is_kept),
+        Ok(end) => Came::Answered(end == wanted.0 && written.as_slice() == wanted.1.as_bytes()),
+        Err(error) => refused(error, written.is_empty()),
     }
 }
 
-pub fn log_written(rt: &impl Abort, alloc: Global, spare: Spare) -> Came {
-    let program = made::program(rt, alloc, COUNTER, None);
+pub fn log_written(rt: &impl Abort, alloc: Global, program: &Program, spare: Spare) -> Came {
     let log = made::log(rt, alloc, program.types(), TICKED);
     let mut output = writer(rt, alloc);
     let hoard = all_but(rt, alloc, spare);
@@ -102,15 +88,14 @@ pub fn log_written(rt: &impl Abort, alloc: Global, spare: Spare) -> Came {
     }
 }
 
-pub fn log_read(rt: &impl Abort, alloc: Global, spare: Spare) -> Came {
-    let program = made::program(rt, alloc, COUNTER, None);
+pub fn log_read(rt: &impl Abort, alloc: Global, program: &Program, spare: Spare) -> Came {
     let mut input = Counted::new(TICKED.as_bytes());
     let hoard = all_but(rt, alloc, spare);
     let answer = read_log(alloc, program.types(), &mut input);
     drop(hoard);
     match answer {
         Ok(log) => Came::Answered(is_log(rt, alloc, program.types(), &log, TICKED)),
-        Err(error) => refused(error, is_program(rt, alloc, &program, COUNTER)),
+        Err(error) => refused(error, true),
     }
 }
 
@@ -119,60 +104,56 @@ const LIST: &str = "tick(5)\ntick(6)\nreset\ntick(6)\n";
 
 const REPLAYED: &str = "tick(5)\ntick(6)\nreset\nend: not enabled at 3\n";
 
-pub fn list_replayed(rt: &impl Abort, alloc: Global, spare: Spare) -> Came {
-    let program = made::program(rt, alloc, COUNTER, None);
+pub fn list_replayed(rt: &impl Abort, alloc: Global, program: &Program, spare: Spare) -> Came {
     let mut input = Counted::new(LIST.as_bytes());
     let mut output = writer(rt, alloc);
     let hoard = all_but(rt, alloc, spare);
-    let answer = replay_list(alloc, &program, &mut input, &mut output);
+    let answer = replay_list(alloc, program, &mut input, &mut output);
     drop(hoard);
     let wanted = (End::NotEnabled(3), REPLAYED);
-    judged(rt, alloc, &program, output, answer, wanted)
+    judged(output, answer, wanted)
 }
 
 /// What is written of the run that the log tells.
 const TRACE: &str = "tick(5)\ntick(6)\nreset\nend: done after 3\n";
 
-pub fn log_replayed(rt: &impl Abort, alloc: Global, spare: Spare) -> Came {
-    let program = made::program(rt, alloc, COUNTER, None);
+pub fn log_replayed(rt: &impl Abort, alloc: Global, program: &Program, spare: Spare) -> Came {
     let mut input = Counted::new(TICKED.as_bytes());
     let mut output = writer(rt, alloc);
     let hoard = all_but(rt, alloc, spare);
-    let answer = replay_log(alloc, &program, &mut input, &mut output);
+    let answer = replay_log(alloc, program, &mut input, &mut output);
     drop(hoard);
-    judged(rt, alloc, &program, output, answer, (End::Done(3), TRACE))
+    judged(output, answer, (End::Done(3), TRACE))
 }
 
 /// The list whose log is read elsewhere, and an action that is not enabled.
 const LOGGED: &str = "tick(5)\ntick(6)\nreset\ntick(6)\n";
 
-pub fn list_logged(rt: &impl Abort, alloc: Global, spare: Spare) -> Came {
-    let program = made::program(rt, alloc, COUNTER, None);
+pub fn list_logged(rt: &impl Abort, alloc: Global, program: &Program, spare: Spare) -> Came {
     let mut input = Counted::new(LOGGED.as_bytes());
     let mut output = writer(rt, alloc);
     let hoard = all_but(rt, alloc, spare);
-    let answer = log_list(alloc, &program, &mut input, &mut output);
+    let answer = log_list(alloc, program, &mut input, &mut output);
     drop(hoard);
     let wanted = (End::NotEnabled(3), TICKED);
-    judged(rt, alloc, &program, output, answer, wanted)
+    judged(output, answer, wanted)
 }
 
 /// A log that the counter accepts as a specification, less its last action.
 const UNACCEPTED: &str =
     "{\"act\":\"tick(5)\",\"who\":0}\n{\"act\":\"tock\",\"who\":3}\n{\"act\":\"tick(7)\",\"who\":0}\n{\"end\":\"done after 3\"}\n";
 
-pub fn log_monitored(rt: &impl Abort, alloc: Global, spare: Spare) -> Came {
-    let program = made::program(rt, alloc, COUNTER, None);
+pub fn log_monitored(rt: &impl Abort, alloc: Global, program: &Program, spare: Spare) -> Came {
     let mut input = Counted::new(UNACCEPTED.as_bytes());
-    if hides_actions(&program) {
+    if hides_actions(program) {
         return Came::Answered(false);
     }
     let hoard = all_but(rt, alloc, spare);
-    let answer = monitor_log(alloc, &program, &mut input);
+    let answer = monitor_log(alloc, program, &mut input);
     drop(hoard);
     match answer {
         Ok(answer) => Came::Answered(answer == Some(End::NotEnabled(2))),
-        Err(error) => refused(error, is_program(rt, alloc, &program, COUNTER)),
+        Err(error) => refused(error, true),
     }
 }
 

@@ -4,11 +4,11 @@ use Rattle.ioa_tree.specs.Steps.{participants}
 use Rattle.ioa_compile.specs.Programs.{Prog}
 use Rattle.ioa_compile.specs.Tables.{tabled}
 use Rattle.ioa_run.proofs.Performing.{numbers_within}
-use Rattle.ioa_tests.proofs.tests.rooms.planned.Goals as goal
+use Rattle.ioa_tests.proofs.tests.rooms.copied.Goals as goal
 
 pub copy-requires : goal.copy-requires
 copy-requires c =
-    let p : Prog = c.board-board.result.now.program in
+    let p : Prog = c.args.board.now.program in
     subst (λ ns. All (λ m. m < length p.members) ns)
-    (sym (c.deref.ensures.value ∙ c.in_ok-numbers.ensures ∙ ap (λ (q : Prog). participants (tabled q) (act_of c.args.action)) c.program-program.ensures))
-    (numbers_within p (act_of c.args.action) (length p.members) refl)
+    (sym (c.deref.ensures.value ∙ c.in_ok-numbers.ensures ∙ ap (λ (q : Prog). participants (tabled q) (act_of c.args.action.now)) c.program-program.ensures))
+    (numbers_within p (act_of c.args.action.now) (length p.members) refl)
