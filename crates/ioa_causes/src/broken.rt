@@ -19,12 +19,21 @@ use ioa_value::OutOfMemory;
 use std::alloc::Global;
 
 /// A source that breaks a rule, whose lines are indices of its tokens.
-#[derive(Drop)]
 pub struct Broken {
     /// The trees, whose lines are indices of tokens.
     pub numbered: Numbered,
     /// Why it is refused, by the rules themselves: at the token of this index.
     pub refusal: Refusal,
+}
+
+/// Written out, so that who drops one calls this, and does not take it apart itself.
+impl Drop for Broken {
+    fn drop(self) {
+        let Broken {
+            numbered: _,
+            refusal: _,
+        } = self;
+    }
 }
 
 impl Broken {

@@ -17,10 +17,19 @@ use std::alloc::Global;
 use std::marker::Model;
 
 /// A source that is well formed, with its types.
-#[derive(Drop)]
 pub struct Checked {
     source: Source,
     types: Types,
+}
+
+/// Written out, so that who drops one calls this, and does not take it apart itself.
+impl Drop for Checked {
+    fn drop(self) {
+        let Checked {
+            source: _,
+            types: _,
+        } = self;
+    }
 }
 
 impl Model for Checked {

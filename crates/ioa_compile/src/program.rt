@@ -14,7 +14,6 @@ use std::alloc::Global;
 use std::marker::Model;
 
 /// A program: tables, start states and verified code of a composition, with an index of its action names. It holds no tree.
-#[derive(Drop)]
 pub struct Program {
     types: Types,
     name: String,
@@ -22,6 +21,19 @@ pub struct Program {
     hidden: Vec<String>,
     /// Where the actions of each name stand in the table. It follows from the table, and is no part of what a program is.
     sites: Index<Site>,
+}
+
+/// Written out, so that who drops one calls this, and does not take it apart itself.
+impl Drop for Program {
+    fn drop(self) {
+        let Program {
+            types: _,
+            name: _,
+            members: _,
+            hidden: _,
+            sites: _,
+        } = self;
+    }
 }
 
 impl Model for Program {

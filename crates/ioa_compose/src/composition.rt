@@ -38,13 +38,25 @@ use std::alloc::Global;
 use std::marker::Model;
 
 /// A composition: its types, its components in order, compatible with one another, and the invariants of its source.
-#[derive(Drop)]
 pub struct Composition {
     types: Types,
     name: String,
     members: Vec<Member>,
     hidden: Vec<String>,
     invariants: Vec<Invariant>,
+}
+
+/// Written out, so that who drops one calls this, and does not take it apart itself.
+impl Drop for Composition {
+    fn drop(self) {
+        let Composition {
+            types: _,
+            name: _,
+            members: _,
+            hidden: _,
+            invariants: _,
+        } = self;
+    }
 }
 
 impl Model for Composition {

@@ -13,7 +13,6 @@ use ioa_value::{OutOfMemory, ended_line};
 use std::alloc::Global;
 
 /// What has come of a text. Kept are a piece and one line.
-#[derive(Drop)]
 pub struct LineReader {
     /// The piece that was read last: of it the bytes from `start` to `end` are still to come.
     pub room: Vec<u8>,
@@ -23,6 +22,19 @@ pub struct LineReader {
     pub over: bool,
     /// The line that came last, without its LF.
     pub line: Vec<u8>,
+}
+
+/// Written out, so that who drops one calls this, and does not take it apart itself.
+impl Drop for LineReader {
+    fn drop(self) {
+        let LineReader {
+            room: _,
+            start: _,
+            end: _,
+            over: _,
+            line: _,
+        } = self;
+    }
 }
 
 impl LineReader {

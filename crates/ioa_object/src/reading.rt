@@ -74,10 +74,11 @@ pub fn read_object(alloc: Global, bytes: &[u8]) -> Result<Program, ObjErr>
         Err(TableErr::OutOfMemory) => return Err(ObjErr::OutOfMemory),
         Err(TableErr::Table) => unreachable!(),
     };
+    let members = program.members();
     if cursor.left() > 0 {
         return Err(ObjErr::Trailing);
     }
-    if is_needless(loops, program.members()) {
+    if is_needless(loops, members) {
         return Err(ObjErr::Version);
     }
     Ok(program)

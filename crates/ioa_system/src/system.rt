@@ -28,11 +28,21 @@ pub(crate) struct Performed {
 }
 
 /// A running program: the program, and one state for each of its components.
-#[derive(Drop)]
 pub struct System<'a> {
     program: &'a Program,
     states: Vec<NodeState>,
     stepper: Stepper<'a>,
+}
+
+/// Written out, so that who drops one calls this, and does not take it apart itself.
+impl Drop for System<'_> {
+    fn drop(self) {
+        let System {
+            program: _,
+            states: _,
+            stepper: _,
+        } = self;
+    }
 }
 
 impl<'a> Model for System<'a> {
@@ -133,7 +143,12 @@ impl<'a> System<'a> {
         ensures values { values_of result.items ≡ self.entry.states }
         ensures types { types_of result.items ≡ slot_types self.entry.program.members }
     {
-        self.states
+        let System {
+            program: _,
+            states,
+            stepper: _,
+        } = self;
+        states
     }
 }
 

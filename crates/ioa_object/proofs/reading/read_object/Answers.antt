@@ -93,7 +93,7 @@ returns-then-left-gt0 c =
     let d = c.tables.new.cursor in
     let some : d.rest ≢ [] = λ e. absurd (omega (arith, c.left.ensures, ap length e, c.if-left-gt0.true)) in
     answers_trailing c.args.bytes.now p d (are_bytes c.args.bytes.now c.type_inv.bytes) (read_all (goal.at.returns-then-left-gt0 c).In_ok-tables) some
-    (subst (λ x. Compatible (tabled x)) (c.program.view_is ∙ c.in-Ok.ensures.program) c.program.invariant.0.compatible)
+    (subst (λ x. Compatible (tabled x)) c.in-Ok.ensures.program c.members-members.ensures.sound.compatible)
 
 pub returns-then-is_needless : goal.returns-then-is_needless
 returns-then-is_needless c =
@@ -102,9 +102,9 @@ returns-then-is_needless c =
     let d = c.tables.new.cursor in
     let none : d.rest ≡ [] = nil_from_length d.rest (omega (arith, c.left.ensures, c.if-left-gt0.false)) in
     let (more, is) = version_is (goal.at.returns-then-is_needless c).In-Some in
-    let same : map member_code c.members.result.now ≡ p.members = c.members.ensures.value ∙ ap (λ q. q.members) c.in-Ok.ensures.program in
+    let same : map member_code c.members-members.result.now ≡ p.members = c.members-members.ensures.value ∙ ap (λ q. q.members) c.in-Ok.ensures.program in
     answers_needless bytes p d (are_bytes bytes c.type_inv.bytes) (read_all (goal.at.returns-then-is_needless c).In_ok-tables) c.in-Some.loops more is none
-    (subst (λ x. Compatible (tabled x)) (c.program.view_is ∙ c.in-Ok.ensures.program) c.program.invariant.0.compatible)
+    (subst (λ x. Compatible (tabled x)) c.in-Ok.ensures.program c.members-members.ensures.sound.compatible)
     (ap (λ ms. is_needless c.in-Some.loops (list_any member_loops ms)) (sym same) ∙ sym c.is_needless.ensures ∙ c.if-is_needless.true)
 
 pub returns : goal.returns
@@ -114,8 +114,8 @@ returns c =
     let d = c.tables.new.cursor in
     let none : d.rest ≡ [] = nil_from_length d.rest (omega (arith, c.left.ensures, c.if-left-gt0.false)) in
     let (more, is) = version_is (goal.at.returns c).In-Some in
-    let same : map member_code c.members.result.now ≡ p.members = c.members.ensures.value ∙ ap (λ q. q.members) c.in-Ok.ensures.program in
+    let same : map member_code c.members-members.result.now ≡ p.members = c.members-members.ensures.value ∙ ap (λ q. q.members) c.in-Ok.ensures.program in
     subst (λ x. Answers bytes (Ok x)) (sym c.in-Ok.ensures.program)
     (answers_ok bytes p d (are_bytes bytes c.type_inv.bytes) (read_all (goal.at.returns c).In_ok-tables) c.in-Some.loops more is none
-    (subst (λ x. Compatible (tabled x)) (c.program.view_is ∙ c.in-Ok.ensures.program) c.program.invariant.0.compatible)
+    (subst (λ x. Compatible (tabled x)) c.in-Ok.ensures.program c.members-members.ensures.sound.compatible)
     (ap (λ ms. is_needless c.in-Some.loops (list_any member_loops ms)) (sym same) ∙ sym c.is_needless.ensures ∙ c.if-is_needless.false))
