@@ -13,6 +13,7 @@ mod operators;
 mod reached;
 mod resumed;
 mod rooms;
+mod said;
 mod schedules;
 mod threads;
 mod tokens;

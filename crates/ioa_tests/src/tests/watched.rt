@@ -145,7 +145,7 @@ fn ended(
 ) -> Result<(), LogErr> {
     assert!(rt; are_open(programs));
     let types = programs.first().expect(rt, "a program").types();
-    match watch(alloc, types, programs, first, input, output) {
+    match watch(alloc, types, programs, first, false, input, output) {
         Ok(_) => Ok(()),
         Err(error) => Err(error),
     }
