@@ -20,11 +20,11 @@ _ioac() {
     check) options='--compositions --explain --help' ;;
     compile) options='--comp --explain --help' ;;
     dump) options='--explain --help' ;;
-    replay) options='--comp --log --invariants --states --explain --help' ;;
-    log) options='--comp --explain --help' ;;
-    run) options='--comp --alone --turns --seed --words --seeds --monitor --inputs --resume --log --reports --explain --help' ;;
-    monitor) options='--comp --explain --help' ;;
-    watch) options='--comp --first --explain --help' ;;
+    replay) options='--comp --log --invariants --states --until --explain --help' ;;
+    log) options='--comp --log --until --explain --help' ;;
+    run) options='--comp --alone --turns --seed --words --seeds --monitor --invariants --keep --inputs --resume --log --reports --explain --help' ;;
+    monitor) options='--comp --strict --json --explain --help' ;;
+    watch) options='--comp --first --json --explain --help' ;;
     chart) options='--comp --from --to --without --explain --help' ;;
     graph) options='--comp --explain --help' ;;
     explain) options='--explain --help' ;;
@@ -34,8 +34,8 @@ _ioac() {
   esac
   case $before in
     --comp | --monitor) mapfile -t COMPREPLY < <(compgen -W "$(_ioac_compositions "${COMP_WORDS[@]:2}")" -- "$word") ;;
-    --turns | --seed | --seeds | --from | --to | --without) COMPREPLY=() ;;
-    --words | --inputs | --resume) mapfile -t COMPREPLY < <(compgen -f -- "$word") ;;
+    --turns | --seed | --seeds | --until | --from | --to | --without) COMPREPLY=() ;;
+    --words | --keep | --inputs | --resume) mapfile -t COMPREPLY < <(compgen -f -- "$word") ;;
     *)
       case ${COMP_WORDS[1]}:$word in
         help:*) mapfile -t COMPREPLY < <(compgen -W "$commands" -- "$word") ;;

@@ -1,5 +1,5 @@
 -- What the matches of a command line ask for.
-use Rattle.std.proofs.Common.{◌≡◌, List, [], Option, Some, None, IfSome, IfNone, refl, sym, ◌∙◌, ap, ap₂, subst, codes, option_map, true, false}
+use Rattle.std.proofs.Common.{◌≡◌, ◌⊎◌, List, [], Option, Some, None, IfSome, IfNone, inl, inr, refl, sym, ◌∙◌, ap, ap₂, subst, codes, option_map, true, false}
 use Rattle.std.specs.Option.{option_and_then, option_copied, option_map_or, unwrap_or}
 use Rattle.std.specs.Prelude.{ℕ, is_some}
 use Rattle.std.specs.Str.{bytes_eq}
@@ -16,7 +16,7 @@ use Rattle.ioa_request.specs.declared.selection.Selection.{Selection}
 use Rattle.ioa_request.specs.declared.settings.Settings.{Settings}
 use Rattle.ioa_request.specs.declared.topic.Topic.{Topic}
 use Rattle.ioa_request.specs.Pasted.{IsPasted, texts}
-use Rattle.ioa_request.specs.CommandLine.{AreSeeds, AreSelected, AreSettings, IsAskedBy, Names, all_given, is_set}
+use Rattle.ioa_request.specs.CommandLine.{AreSeeds, AreSelected, AreSettings, IsAskedBy, Names, all_given, is_bounded, is_set}
 use Rattle.ioa_request.specs.Seeds.{range_in}
 use Rattle.ioa_request.specs.Selections.{are_in_order, bound_in}
 use Rattle.ioa_request.specs.Settings.{source_in, source_of, turns_in}
@@ -72,8 +72,11 @@ no_file word rows other another none (Request.ReplayLog file composition) h = le
 no_file word rows other another none (Request.ReplayLogStates file composition) h = let z : None ≡ Some file.now = sym none ∙ h.1.0 in cc
 no_file word rows other another none (Request.ReplayInvariants file composition) h = let z : None ≡ Some file.now = sym none ∙ h.1.0 in cc
 no_file word rows other another none (Request.Log file composition) h = let z : None ≡ Some file.now = sym none ∙ h.1.0 in cc
+no_file word rows other another none (Request.LogByLog file composition) h = let z : None ≡ Some file.now = sym none ∙ h.1.0 in cc
 no_file word rows other another none (Request.Monitor file composition) h = let z : None ≡ Some file.now = sym none ∙ h.1.0 in cc
-no_file word rows other another none (Request.Watch file compositions first counts) h = let z : None ≡ Some file.now = sym none ∙ h.1 in cc
+no_file word rows other another none (Request.MonitorJson file composition) h = let z : None ≡ Some file.now = sym none ∙ h.1.0 in cc
+no_file word rows other another none (Request.StrictMonitor file composition json) h = let z : None ≡ Some file.now = sym none ∙ h.1.0 in cc
+no_file word rows other another none (Request.Watch file compositions first counts json) h = let z : None ≡ Some file.now = sym none ∙ h.1 in cc
 no_file word rows other another none (Request.Chart file composition selection) h = let z : None ≡ Some file.now = sym none ∙ h.1.0 in cc
 no_file word rows other another none (Request.Graph file composition) h = let z : None ≡ Some file.now = sym none ∙ h.1.0 in cc
 no_file word rows other another none (Request.Run s) h = let z : None ≡ Some s.file.now = sym none ∙ h.2.names.0 in cc
@@ -92,9 +95,12 @@ no_explanation rows none (Request.ReplayStates file composition) h = apart (code
 no_explanation rows none (Request.ReplayLog file composition) h = apart (codes "explain") (codes "replay") refl refl h.0.0
 no_explanation rows none (Request.ReplayLogStates file composition) h = apart (codes "explain") (codes "replay") refl refl h.0.0
 no_explanation rows none (Request.ReplayInvariants file composition) h = apart (codes "explain") (codes "replay") refl refl h.0.0
-no_explanation rows none (Request.Log file composition) h = apart (codes "explain") (codes "log") refl refl h.0
+no_explanation rows none (Request.Log file composition) h = apart (codes "explain") (codes "log") refl refl h.0.0
+no_explanation rows none (Request.LogByLog file composition) h = apart (codes "explain") (codes "log") refl refl h.0.0
 no_explanation rows none (Request.Monitor file composition) h = apart (codes "explain") (codes "monitor") refl refl h.0
-no_explanation rows none (Request.Watch file compositions first counts) h = apart (codes "explain") (codes "watch") refl refl h.0
+no_explanation rows none (Request.MonitorJson file composition) h = apart (codes "explain") (codes "monitor") refl refl h.0
+no_explanation rows none (Request.StrictMonitor file composition json) h = apart (codes "explain") (codes "monitor") refl refl h.0
+no_explanation rows none (Request.Watch file compositions first counts json) h = apart (codes "explain") (codes "watch") refl refl h.0
 no_explanation rows none (Request.Chart file composition selection) h = apart (codes "explain") (codes "chart") refl refl h.0
 no_explanation rows none (Request.Graph file composition) h = apart (codes "explain") (codes "graph") refl refl h.0
 no_explanation rows none (Request.Run s) h = apart (codes "explain") (codes "run") refl refl h.0
@@ -112,9 +118,12 @@ no_out rows none (Request.ReplayStates file composition) h = apart (codes "compi
 no_out rows none (Request.ReplayLog file composition) h = apart (codes "compile") (codes "replay") refl refl h.0.0
 no_out rows none (Request.ReplayLogStates file composition) h = apart (codes "compile") (codes "replay") refl refl h.0.0
 no_out rows none (Request.ReplayInvariants file composition) h = apart (codes "compile") (codes "replay") refl refl h.0.0
-no_out rows none (Request.Log file composition) h = apart (codes "compile") (codes "log") refl refl h.0
+no_out rows none (Request.Log file composition) h = apart (codes "compile") (codes "log") refl refl h.0.0
+no_out rows none (Request.LogByLog file composition) h = apart (codes "compile") (codes "log") refl refl h.0.0
 no_out rows none (Request.Monitor file composition) h = apart (codes "compile") (codes "monitor") refl refl h.0
-no_out rows none (Request.Watch file compositions first counts) h = apart (codes "compile") (codes "watch") refl refl h.0
+no_out rows none (Request.MonitorJson file composition) h = apart (codes "compile") (codes "monitor") refl refl h.0
+no_out rows none (Request.StrictMonitor file composition json) h = apart (codes "compile") (codes "monitor") refl refl h.0
+no_out rows none (Request.Watch file compositions first counts json) h = apart (codes "compile") (codes "watch") refl refl h.0
 no_out rows none (Request.Chart file composition selection) h = apart (codes "compile") (codes "chart") refl refl h.0
 no_out rows none (Request.Graph file composition) h = apart (codes "compile") (codes "graph") refl refl h.0
 no_out rows none (Request.Run s) h = apart (codes "compile") (codes "run") refl refl h.0
@@ -132,9 +141,12 @@ no_specification rows none (Request.ReplayStates file composition) h = apart (co
 no_specification rows none (Request.ReplayLog file composition) h = apart (codes "watch") (codes "replay") refl refl h.0.0
 no_specification rows none (Request.ReplayLogStates file composition) h = apart (codes "watch") (codes "replay") refl refl h.0.0
 no_specification rows none (Request.ReplayInvariants file composition) h = apart (codes "watch") (codes "replay") refl refl h.0.0
-no_specification rows none (Request.Log file composition) h = apart (codes "watch") (codes "log") refl refl h.0
+no_specification rows none (Request.Log file composition) h = apart (codes "watch") (codes "log") refl refl h.0.0
+no_specification rows none (Request.LogByLog file composition) h = apart (codes "watch") (codes "log") refl refl h.0.0
 no_specification rows none (Request.Monitor file composition) h = apart (codes "watch") (codes "monitor") refl refl h.0
-no_specification rows none (Request.Watch file compositions first counts) h = let z : None ≡ Some (texts compositions.now) = sym none ∙ h.2 in cc
+no_specification rows none (Request.MonitorJson file composition) h = apart (codes "watch") (codes "monitor") refl refl h.0
+no_specification rows none (Request.StrictMonitor file composition json) h = apart (codes "watch") (codes "monitor") refl refl h.0
+no_specification rows none (Request.Watch file compositions first counts json) h = let z : None ≡ Some (texts compositions.now) = sym none ∙ h.2 in cc
 no_specification rows none (Request.Chart file composition selection) h = apart (codes "watch") (codes "chart") refl refl h.0
 no_specification rows none (Request.Graph file composition) h = apart (codes "watch") (codes "graph") refl refl h.0
 no_specification rows none (Request.Run s) h = apart (codes "watch") (codes "run") refl refl h.0
@@ -152,9 +164,12 @@ no_selection rows none (Request.ReplayStates file composition) h = apart (codes 
 no_selection rows none (Request.ReplayLog file composition) h = apart (codes "chart") (codes "replay") refl refl h.0.0
 no_selection rows none (Request.ReplayLogStates file composition) h = apart (codes "chart") (codes "replay") refl refl h.0.0
 no_selection rows none (Request.ReplayInvariants file composition) h = apart (codes "chart") (codes "replay") refl refl h.0.0
-no_selection rows none (Request.Log file composition) h = apart (codes "chart") (codes "log") refl refl h.0
+no_selection rows none (Request.Log file composition) h = apart (codes "chart") (codes "log") refl refl h.0.0
+no_selection rows none (Request.LogByLog file composition) h = apart (codes "chart") (codes "log") refl refl h.0.0
 no_selection rows none (Request.Monitor file composition) h = apart (codes "chart") (codes "monitor") refl refl h.0
-no_selection rows none (Request.Watch file compositions first counts) h = apart (codes "chart") (codes "watch") refl refl h.0
+no_selection rows none (Request.MonitorJson file composition) h = apart (codes "chart") (codes "monitor") refl refl h.0
+no_selection rows none (Request.StrictMonitor file composition json) h = apart (codes "chart") (codes "monitor") refl refl h.0
+no_selection rows none (Request.Watch file compositions first counts json) h = apart (codes "chart") (codes "watch") refl refl h.0
 no_selection rows none (Request.Chart file composition selection) h = none selection h.2
 no_selection rows none (Request.Graph file composition) h = apart (codes "chart") (codes "graph") refl refl h.0
 no_selection rows none (Request.Run s) h = apart (codes "chart") (codes "run") refl refl h.0
@@ -172,9 +187,12 @@ no_log word rows is log invariants (Request.ReplayStates file composition) h = f
 no_log word rows is log invariants (Request.ReplayLog file composition) h = false≢true (sym log ∙ h.0.1)
 no_log word rows is log invariants (Request.ReplayLogStates file composition) h = false≢true (sym log ∙ h.0.1)
 no_log word rows is log invariants (Request.ReplayInvariants file composition) h = false≢true (sym log ∙ h.0.1)
-no_log word rows is log invariants (Request.Log file composition) h = apart (codes "replay") (codes "log") refl refl (sym is ∙ h.0)
+no_log word rows is log invariants (Request.Log file composition) h = apart (codes "replay") (codes "log") refl refl (sym is ∙ h.0.0)
+no_log word rows is log invariants (Request.LogByLog file composition) h = apart (codes "replay") (codes "log") refl refl (sym is ∙ h.0.0)
 no_log word rows is log invariants (Request.Monitor file composition) h = apart (codes "replay") (codes "monitor") refl refl (sym is ∙ h.0)
-no_log word rows is log invariants (Request.Watch file compositions first counts) h = apart (codes "replay") (codes "watch") refl refl (sym is ∙ h.0)
+no_log word rows is log invariants (Request.MonitorJson file composition) h = apart (codes "replay") (codes "monitor") refl refl (sym is ∙ h.0)
+no_log word rows is log invariants (Request.StrictMonitor file composition json) h = apart (codes "replay") (codes "monitor") refl refl (sym is ∙ h.0)
+no_log word rows is log invariants (Request.Watch file compositions first counts json) h = apart (codes "replay") (codes "watch") refl refl (sym is ∙ h.0)
 no_log word rows is log invariants (Request.Chart file composition selection) h = apart (codes "replay") (codes "chart") refl refl (sym is ∙ h.0)
 no_log word rows is log invariants (Request.Graph file composition) h = apart (codes "replay") (codes "graph") refl refl (sym is ∙ h.0)
 no_log word rows is log invariants (Request.Run s) h = apart (codes "replay") (codes "run") refl refl (sym is ∙ h.0)
@@ -192,9 +210,12 @@ no_both word rows is invariants states (Request.ReplayStates file composition) h
 no_both word rows is invariants states (Request.ReplayLog file composition) h = false≢true (sym h.0.2 ∙ invariants)
 no_both word rows is invariants states (Request.ReplayLogStates file composition) h = false≢true (sym h.0.2 ∙ invariants)
 no_both word rows is invariants states (Request.ReplayInvariants file composition) h = false≢true (sym h.0.3 ∙ states)
-no_both word rows is invariants states (Request.Log file composition) h = apart (codes "replay") (codes "log") refl refl (sym is ∙ h.0)
+no_both word rows is invariants states (Request.Log file composition) h = apart (codes "replay") (codes "log") refl refl (sym is ∙ h.0.0)
+no_both word rows is invariants states (Request.LogByLog file composition) h = apart (codes "replay") (codes "log") refl refl (sym is ∙ h.0.0)
 no_both word rows is invariants states (Request.Monitor file composition) h = apart (codes "replay") (codes "monitor") refl refl (sym is ∙ h.0)
-no_both word rows is invariants states (Request.Watch file compositions first counts) h = apart (codes "replay") (codes "watch") refl refl (sym is ∙ h.0)
+no_both word rows is invariants states (Request.MonitorJson file composition) h = apart (codes "replay") (codes "monitor") refl refl (sym is ∙ h.0)
+no_both word rows is invariants states (Request.StrictMonitor file composition json) h = apart (codes "replay") (codes "monitor") refl refl (sym is ∙ h.0)
+no_both word rows is invariants states (Request.Watch file compositions first counts json) h = apart (codes "replay") (codes "watch") refl refl (sym is ∙ h.0)
 no_both word rows is invariants states (Request.Chart file composition selection) h = apart (codes "replay") (codes "chart") refl refl (sym is ∙ h.0)
 no_both word rows is invariants states (Request.Graph file composition) h = apart (codes "replay") (codes "graph") refl refl (sym is ∙ h.0)
 no_both word rows is invariants states (Request.Run s) h = apart (codes "replay") (codes "run") refl refl (sym is ∙ h.0)
@@ -204,6 +225,34 @@ no_both word rows is invariants states (Request.Compile file out composition) h 
 no_both word rows is invariants states (Request.Dump file) h = apart (codes "replay") (codes "dump") refl refl (sym is ∙ h.0)
 no_both word rows is invariants states (Request.Explain code) h = apart (codes "replay") (codes "explain") refl refl (sym is ∙ h.0)
 no_both word rows is invariants states Request.Library h = apart (codes "replay") (codes "library") refl refl (sym is ∙ h)
+
+-- where the bound is no number up to which a list or a log is taken
+neither_one : (word other : Text) → (word ≡ codes "replay") ⊎ (word ≡ codes "log") → bytes_eq (codes "replay") other ≡ false → bytes_eq (codes "log") other ≡ false
+    → bytes_eq other other ≡ true → word ≡ other → ⊥
+neither_one word other (inl is) a b same e = apart (codes "replay") other a same (sym is ∙ e)
+neither_one word other (inr is) a b same e = apart (codes "log") other b same (sym is ∙ e)
+
+pub no_bound : (word : Text) (rows : List Row) → (word ≡ codes "replay") ⊎ (word ≡ codes "log") → is_bounded rows ≡ false → AsksNothing (Some (word, rows))
+no_bound word rows is none (Request.Replay file composition) h = false≢true (sym none ∙ h.0.4)
+no_bound word rows is none (Request.ReplayStates file composition) h = false≢true (sym none ∙ h.0.4)
+no_bound word rows is none (Request.ReplayLog file composition) h = false≢true (sym none ∙ h.0.4)
+no_bound word rows is none (Request.ReplayLogStates file composition) h = false≢true (sym none ∙ h.0.4)
+no_bound word rows is none (Request.ReplayInvariants file composition) h = false≢true (sym none ∙ h.0.4)
+no_bound word rows is none (Request.Log file composition) h = false≢true (sym none ∙ h.0.2)
+no_bound word rows is none (Request.LogByLog file composition) h = false≢true (sym none ∙ h.0.2)
+no_bound word rows is none (Request.Monitor file composition) h = neither_one word (codes "monitor") is refl refl refl h.0
+no_bound word rows is none (Request.MonitorJson file composition) h = neither_one word (codes "monitor") is refl refl refl h.0
+no_bound word rows is none (Request.StrictMonitor file composition json) h = neither_one word (codes "monitor") is refl refl refl h.0
+no_bound word rows is none (Request.Watch file compositions first counts json) h = neither_one word (codes "watch") is refl refl refl h.0
+no_bound word rows is none (Request.Chart file composition selection) h = neither_one word (codes "chart") is refl refl refl h.0
+no_bound word rows is none (Request.Graph file composition) h = neither_one word (codes "graph") is refl refl refl h.0
+no_bound word rows is none (Request.Run s) h = neither_one word (codes "run") is refl refl refl h.0
+no_bound word rows is none (Request.Seeds s) h = neither_one word (codes "run") is refl refl refl h.0
+no_bound word rows is none (Request.Check file compositions) h = neither_one word (codes "check") is refl refl refl h.0
+no_bound word rows is none (Request.Compile file out composition) h = neither_one word (codes "compile") is refl refl refl h.0
+no_bound word rows is none (Request.Dump file) h = neither_one word (codes "dump") is refl refl refl h.0
+no_bound word rows is none (Request.Explain topic) h = neither_one word (codes "explain") is refl refl refl h.0
+no_bound word rows is none Request.Library h = neither_one word (codes "library") is refl refl refl h
 
 -- the file and the composition that are named
 pub names : (found : ArgMatches) (file : Bor Text) (composition : Option (Bor Text)) → Some file.now ≡ first_value (found_of found) (codes "FILE")

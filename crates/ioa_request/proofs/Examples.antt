@@ -8,9 +8,11 @@ use Rattle.hex.specs.Hex.{decode_pairs}
 use Rattle.std.specs.Fmt.{digits}
 use Rattle.ioa_arithmetic.specs.declared.arithmetic.Fault.{Fault}
 use Rattle.ioa_request.specs.declared.code.Code.{Code}
+use Rattle.ioa_request.specs.declared.cut.Cut.{Cut}
 use Rattle.ioa_request.specs.declared.request.Request.{Request}
 use Rattle.ioa_request.specs.declared.topic.Topic.{Topic}
 use Rattle.ioa_request.specs.CommandLine.{IsAsked, all_given, ioac_app, is_set}
+use Rattle.ioa_request.specs.Cuts.{cut_of}
 use Rattle.ioa_request.specs.Keys.{numbered_digits, numbered_key}
 use Rattle.ioa_request.specs.Pasted.{IsPasted}
 
@@ -55,7 +57,7 @@ monitored : asked (codes "ioac" ∷ codes "monitor" ∷ codes "f" ∷ codes "--c
 unfolding asked clap_on_literals
 monitored = refl
 
--- the flag is the replay's alone
+-- the flag is none of a monitor's
 no_log : fault_of ioac_app (codes "ioac" ∷ codes "monitor" ∷ codes "f" ∷ codes "--log" ∷ []) ≡ kinds.UnknownArgument ∷ []
 unfolding clap_on_literals
 no_log = refl
@@ -197,6 +199,22 @@ watched_by_none : fault_of ioac_app (codes "ioac" ∷ codes "watch" ∷ codes "f
 unfolding clap_on_literals
 watched_by_none = refl
 
+-- how much is taken of a list, of a log, and where no bound is given
+taken : List Text → Option Cut
+taken words = cut_of (subcommand_of ioac_app words)
+
+part_of_a_list : taken (codes "ioac" ∷ codes "replay" ∷ codes "f" ∷ codes "--until" ∷ codes "12" ∷ []) ≡ Some (Cut.List 12)
+unfolding taken clap_on_literals
+part_of_a_list = refl
+
+part_of_a_log : taken (codes "ioac" ∷ codes "log" ∷ codes "--until" ∷ codes "0" ∷ codes "--log" ∷ codes "f" ∷ []) ≡ Some (Cut.Log 0)
+unfolding taken clap_on_literals
+part_of_a_log = refl
+
+all_of_a_log : taken (codes "ioac" ∷ codes "replay" ∷ codes "--log" ∷ codes "f" ∷ []) ≡ None
+unfolding taken clap_on_literals
+all_of_a_log = refl
+
 -- the bounds of a chart and the names that it leaves out, as they are spelled
 charted : List Text → Option (Text × Option Text × Option Text × Option (List Text))
 charted words = option_map (λ p. (p.0, first_of (codes "from") p.1, first_of (codes "to") p.1, all_of (codes "without") p.1)) (subcommand_of ioac_app words)
@@ -224,3 +242,27 @@ sown_by_two = refl
 sown_by_none : sown (codes "ioac" ∷ codes "run" ∷ codes "f" ∷ codes "--alone" ∷ codes "--seeds" ∷ codes "1..9" ∷ []) ≡ Some (Some (codes "1..9"), [])
 unfolding sown clap_on_literals
 sown_by_none = refl
+
+-- the file for the shortest log of runs by many seeds, which may be missing
+kept : List Text → Option (Option Text)
+kept words = option_map (λ p. first_of (codes "keep") p.1) (subcommand_of ioac_app words)
+
+kept_in_a_file : kept (codes "ioac" ∷ codes "run" ∷ codes "f" ∷ codes "--seeds" ∷ codes "1..9" ∷ codes "--keep" ∷ codes "k" ∷ codes "--alone" ∷ []) ≡ Some (Some (codes "k"))
+unfolding kept clap_on_literals
+kept_in_a_file = refl
+
+kept_nowhere : kept (codes "ioac" ∷ codes "run" ∷ codes "f" ∷ codes "--alone" ∷ codes "--seeds" ∷ codes "1..9" ∷ []) ≡ Some None
+unfolding kept clap_on_literals
+kept_nowhere = refl
+
+-- whether a monitor is asked strictly, and for an object
+answered_by : List Text → Option (Option Text × Bool × Bool)
+answered_by words = option_map (λ p. (first_of (codes "FILE") p.1, is_set (codes "strict") p.1, is_set (codes "json") p.1)) (subcommand_of ioac_app words)
+
+strict_alone : answered_by (codes "ioac" ∷ codes "monitor" ∷ codes "--strict" ∷ codes "f" ∷ []) ≡ Some (Some (codes "f"), true, false)
+unfolding answered_by clap_on_literals
+strict_alone = refl
+
+object_alone : answered_by (codes "ioac" ∷ codes "monitor" ∷ codes "f" ∷ codes "--json" ∷ []) ≡ Some (Some (codes "f"), false, true)
+unfolding answered_by clap_on_literals
+object_alone = refl

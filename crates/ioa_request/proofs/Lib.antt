@@ -1,5 +1,6 @@
 mod Examples
 pub mod Asked
+pub mod Cutting
 pub mod Keys
 pub mod Numbers
 pub mod Parted

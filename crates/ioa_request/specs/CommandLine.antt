@@ -40,6 +40,14 @@ specification_rule = record (new_rule (codes "comp")) { long = Some (codes "comp
 abbrev pub first_rule : Rule
 first_rule = record (new_rule (codes "first")) { long = Some (codes "first"); action = Some ArgAction.SetTrue }
 
+-- `--strict`
+abbrev pub strict_rule : Rule
+strict_rule = record (new_rule (codes "strict")) { long = Some (codes "strict"); action = Some ArgAction.SetTrue }
+
+-- `--json`
+abbrev pub json_rule : Rule
+json_rule = record (new_rule (codes "json")) { long = Some (codes "json"); action = Some ArgAction.SetTrue }
+
 -- `--log`
 abbrev pub log_rule : Rule
 log_rule = record (new_rule (codes "log")) { long = Some (codes "log"); action = Some ArgAction.SetTrue }
@@ -55,6 +63,10 @@ compositions_rule = record (new_rule (codes "compositions")) { long = Some (code
 -- `--states`
 abbrev pub states_rule : Rule
 states_rule = record (new_rule (codes "states")) { long = Some (codes "states"); action = Some ArgAction.SetTrue }
+
+-- `--until N`
+abbrev pub until_rule : Rule
+until_rule = record (new_rule (codes "until")) { long = Some (codes "until"); value_names = 1 }
 
 -- `--from N`
 abbrev pub from_rule : Rule
@@ -92,6 +104,10 @@ seeds_rule = record (new_rule (codes "seeds")) { long = Some (codes "seeds"); va
 abbrev pub monitor_rule : Rule
 monitor_rule = record (new_rule (codes "monitor")) { long = Some (codes "monitor"); action = Some ArgAction.Append; value_names = 1 }
 
+-- `--keep KFILE`
+abbrev pub keep_rule : Rule
+keep_rule = record (new_rule (codes "keep")) { long = Some (codes "keep"); value_names = 1 }
+
 -- `--inputs LFILE`
 abbrev pub inputs_rule : Rule
 inputs_rule = record (new_rule (codes "inputs")) { long = Some (codes "inputs"); value_names = 1 }
@@ -125,16 +141,16 @@ library_app = with_rule (new_app (codes "library")) explain_rule
 
 abbrev pub replay_app : App
 replay_app =
-    with_rule (with_rule (with_rule (with_rule (with_rule (with_rule (new_app (codes "replay")) file_rule) comp_rule) log_rule) invariants_rule) states_rule) explain_rule
+    with_rule (with_rule (with_rule (with_rule (with_rule (with_rule (with_rule (new_app (codes "replay")) file_rule) comp_rule) log_rule) invariants_rule) states_rule) until_rule) explain_rule
 
 abbrev pub log_app : App
-log_app = with_rule (with_rule (with_rule (new_app (codes "log")) file_rule) comp_rule) explain_rule
+log_app = with_rule (with_rule (with_rule (with_rule (with_rule (new_app (codes "log")) file_rule) comp_rule) log_rule) until_rule) explain_rule
 
 abbrev pub monitor_app : App
-monitor_app = with_rule (with_rule (with_rule (new_app (codes "monitor")) file_rule) comp_rule) explain_rule
+monitor_app = with_rule (with_rule (with_rule (with_rule (with_rule (new_app (codes "monitor")) file_rule) comp_rule) strict_rule) json_rule) explain_rule
 
 abbrev pub watch_app : App
-watch_app = with_rule (with_rule (with_rule (with_rule (new_app (codes "watch")) file_rule) specification_rule) first_rule) explain_rule
+watch_app = with_rule (with_rule (with_rule (with_rule (with_rule (new_app (codes "watch")) file_rule) specification_rule) first_rule) json_rule) explain_rule
 
 abbrev pub chart_app : App
 chart_app =
@@ -145,8 +161,8 @@ graph_app = with_rule (with_rule (with_rule (new_app (codes "graph")) file_rule)
 
 abbrev pub run_app : App
 run_app =
-    with_rule (with_rule (with_rule (with_rule (with_rule (with_rule (with_rule (with_rule (with_rule (with_rule (with_rule (with_rule (with_rule (new_app (codes "run")) file_rule) comp_rule)
-    alone_rule) turns_rule) seed_rule) words_rule) seeds_rule) monitor_rule) inputs_rule) resume_rule) log_rule) reports_rule) explain_rule
+    with_rule (with_rule (with_rule (with_rule (with_rule (with_rule (with_rule (with_rule (with_rule (with_rule (with_rule (with_rule (with_rule (with_rule (with_rule (new_app (codes "run")) file_rule) comp_rule)
+    alone_rule) turns_rule) seed_rule) words_rule) seeds_rule) monitor_rule) invariants_rule) keep_rule) inputs_rule) resume_rule) log_rule) reports_rule) explain_rule
 
 -- a subcommand has to stand; where no word stands, help is given; there is a version, and a subcommand `help` of the crate that parses
 abbrev pub bare_app : App
@@ -182,10 +198,23 @@ abbrev pub is_explained : Option (Text × List Row) → Bool
 is_explained None = false
 is_explained (Some found) = is_set (codes "explain") found.1
 
+-- the bound up to which a list or a log is taken is a number, where one is given
+abbrev pub is_bounded : List Row → Bool
+is_bounded rows = is_some (bound_in (first_of (codes "until") rows))
+
 -- it is a replay, of a log or not, asked for invariants or not, and for states or not
 abbrev pub IsReplayWith : Bool → Bool → Bool → Text × List Row → Type 0
 IsReplayWith log invariants states found =
     (found.0 ≡ codes "replay") × (is_set (codes "log") found.1 ≡ log) × (is_set (codes "invariants") found.1 ≡ invariants) × (is_set (codes "states") found.1 ≡ states)
+    × (is_bounded found.1 ≡ true)
+
+-- it writes a log, of a log or of a list
+abbrev pub IsLogWith : Bool → Text × List Row → Type 0
+IsLogWith log found = (found.0 ≡ codes "log") × (is_set (codes "log") found.1 ≡ log) × (is_bounded found.1 ≡ true)
+
+-- a monitor's values ask it strictly or not, and for an object or not
+abbrev pub AreAnswered : Bool → Bool → List Row → Type 0
+AreAnswered strict json rows = (is_set (codes "strict") rows ≡ strict) × (is_set (codes "json") rows ≡ json)
 
 -- the file and the composition that a subcommand's values name
 abbrev pub Names : List Row → Text → Option Text → Type 0
@@ -204,7 +233,8 @@ pub record AreSettings (rows : List Row) (s : Settings) : Type 0 where
 
 -- runs by many seeds are asked for, or what they alone have
 abbrev pub asks_seeds : List Row → Bool
-asks_seeds rows = is_some (first_of (codes "seeds") rows) || is_some (first_of (codes "monitor") rows)
+asks_seeds rows =
+    is_some (first_of (codes "seeds") rows) || is_some (first_of (codes "monitor") rows) || is_some (first_of (codes "keep") rows) || is_set (codes "invariants") rows
 
 -- the values of an option that may stand several times, or not at all
 abbrev pub all_given : Text → List Row → List Text
@@ -222,6 +252,8 @@ pub record AreSeeds (rows : List Row) (s : Seeds) : Type 0 where
   pub admitted : admits_seeds rows ≡ true
   pub range : option_and_then range_in (first_of (codes "seeds") rows) ≡ Some (s.first, s.last)
   pub monitors : all_given (codes "monitor") rows ≡ texts s.monitors.now
+  pub invariants : is_set (codes "invariants") rows ≡ s.invariants
+  pub keep : first_of (codes "keep") rows ≡ option_copied s.keep
 
 -- the entries of this selection are what a subcommand's values ask for
 pub record AreSelected (rows : List Row) (s : Selection) : Type 0 where
@@ -244,11 +276,17 @@ IsAskedBy (Some found) (Request.ReplayLogStates file composition) =
     IsReplayWith true false true found × Names found.1 file.now (option_copied composition)
 IsAskedBy (Some found) (Request.ReplayInvariants file composition) =
     IsReplayWith true true false found × Names found.1 file.now (option_copied composition)
-IsAskedBy (Some found) (Request.Log file composition) = (found.0 ≡ codes "log") × Names found.1 file.now (option_copied composition)
-IsAskedBy (Some found) (Request.Monitor file composition) = (found.0 ≡ codes "monitor") × Names found.1 file.now (option_copied composition)
-IsAskedBy (Some found) (Request.Watch file compositions first counts) =
+IsAskedBy (Some found) (Request.Log file composition) = IsLogWith false found × Names found.1 file.now (option_copied composition)
+IsAskedBy (Some found) (Request.LogByLog file composition) = IsLogWith true found × Names found.1 file.now (option_copied composition)
+IsAskedBy (Some found) (Request.Monitor file composition) =
+    (found.0 ≡ codes "monitor") × Names found.1 file.now (option_copied composition) × AreAnswered false false found.1
+IsAskedBy (Some found) (Request.MonitorJson file composition) =
+    (found.0 ≡ codes "monitor") × Names found.1 file.now (option_copied composition) × AreAnswered false true found.1
+IsAskedBy (Some found) (Request.StrictMonitor file composition json) =
+    (found.0 ≡ codes "monitor") × Names found.1 file.now (option_copied composition) × AreAnswered true json found.1
+IsAskedBy (Some found) (Request.Watch file compositions first counts json) =
     (found.0 ≡ codes "watch") × (first_of (codes "FILE") found.1 ≡ Some file.now) × (all_of (codes "comp") found.1 ≡ Some (texts compositions.now))
-    × (is_set (codes "first") found.1 ≡ first) × (is_set (codes "explain") found.1 ≡ counts)
+    × (is_set (codes "first") found.1 ≡ first) × (is_set (codes "explain") found.1 ≡ counts) × (is_set (codes "json") found.1 ≡ json)
 IsAskedBy (Some found) (Request.Chart file composition selection) =
     (found.0 ≡ codes "chart") × Names found.1 file.now (option_copied composition) × AreSelected found.1 selection
 IsAskedBy (Some found) (Request.Graph file composition) = (found.0 ≡ codes "graph") × Names found.1 file.now (option_copied composition)

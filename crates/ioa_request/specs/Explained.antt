@@ -14,6 +14,8 @@ title (Topic.Fault f) = codes "fault " ++ decimal (fault_number f)
 title Topic.Done = codes "done"
 title Topic.NotAnAction = codes "not an action"
 title Topic.NotEnabled = codes "not enabled"
+title Topic.PassedOver = codes "passed over"
+title Topic.NothingTaken = codes "nothing taken"
 title Topic.Broken = codes "invariant broken"
 title Topic.Fine = codes "ok"
 

@@ -1,5 +1,6 @@
 pub mod Codes
 pub mod CommandLine
+pub mod Cuts
 pub mod Explained
 pub mod Fields
 pub mod Keys

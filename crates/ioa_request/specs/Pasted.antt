@@ -69,6 +69,8 @@ phrase_in word second =
     if reads word (codes "fault") then option_map Topic.Fault (option_and_then fault_in second)
     else if reads word (codes "not") then option_and_then refused_in second
     else if reads word (codes "done") then Some Topic.Done
+    else if reads word (codes "passed") then Some Topic.PassedOver
+    else if reads word (codes "nothing") then Some Topic.NothingTaken
     else if reads word (codes "invariant") then Some Topic.Broken
     else if reads word (codes "ok") then Some Topic.Fine
     else None

@@ -4,7 +4,7 @@ ghost use Rattle.std.specs.Prelude.{◌≡◌, false, codes, IfOk};
 ghost use Rattle.clap.specs.Words.{app_of, new_app, rule_of};
 ghost use Rattle.ioa_request.specs.CommandLine.{IsLocal, chart_app, from_rule, to_rule, without_rule};
 
-use crate::request::{composition_option, explain_flag, file_argument};
+use crate::request::{composition_option, explain_flag, file_argument, taking};
 use clap::{Arg, ArgAction, Command};
 use std::alloc::{AllocError, Global};
 
@@ -45,13 +45,12 @@ pub fn chart_command<'a>(alloc: Global) -> Result<Command<'a>, AllocError>
     ensures app { IfOk result (λ command. app_of command ≡ chart_app) }
     ensures local { IfOk result IsLocal }
 {
-    described_chart(alloc)
-        .arg(file_argument(alloc))?
-        .arg(composition_option(alloc))?
-        .arg(from_option(alloc))?
-        .arg(to_option(alloc))?
-        .arg(without_option(alloc))?
-        .arg(explain_flag(alloc))
+    let command = taking(Ok(described_chart(alloc)), file_argument(alloc));
+    let command = taking(command, composition_option(alloc));
+    let command = taking(command, from_option(alloc));
+    let command = taking(command, to_option(alloc));
+    let command = taking(command, without_option(alloc));
+    taking(command, explain_flag(alloc))
 }
 
 /// The subcommand without its arguments. Its usage is written out, since names are given as often as there are some.

@@ -34,6 +34,8 @@ fn of_topic(topic: Topic) -> &'static Explanation
         Topic::Done => &ends::DONE,
         Topic::NotAnAction => &ends::NOT_AN_ACTION,
         Topic::NotEnabled => &ends::NOT_ENABLED,
+        Topic::PassedOver => &ends::PASSED_OVER,
+        Topic::NothingTaken => &ends::NOTHING_TAKEN,
         Topic::Broken => &ends::BROKEN,
         Topic::Fine => &ends::FINE,
     }

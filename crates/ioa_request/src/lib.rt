@@ -1,10 +1,14 @@
 //! What the words of a command line ask for: a `Request`, with `Settings` where it is a run,
-//! `Seeds` where it is one for each of many seeds, and a `Selection` of a log's entries where it is a chart. No file is read for it. Each `Code` and each
+//! `Seeds` where it is one for each of many seeds, and a `Selection` of a log's entries where it is a chart; and with it a `Cut` of a list or a
+//! log, where no more of these is taken. No file is read for it. Each `Code` and each
 //! `Topic` of what the program prints has an explanation here.
 #![tactic(auto)]
 
 // What is asked for.
 mod chart_usage;
+mod cut;
+mod cut_usage;
+mod monitor_usage;
 mod reading;
 mod request;
 mod run_usage;
@@ -26,6 +30,7 @@ mod pasted;
 mod topic;
 
 pub use code::Code;
+pub use cut::{Cut, read_cut};
 pub use fields::first_field;
 pub use key::{numbered_digits, numbered_key};
 pub use numerals::numeral;

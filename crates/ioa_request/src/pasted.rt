@@ -114,6 +114,12 @@ fn phrase(word: &[u8], second: Option<&[u8]>) -> Option<Topic>
     if reads(word, b"done") {
         return Some(Topic::Done);
     }
+    if reads(word, b"passed") {
+        return Some(Topic::PassedOver);
+    }
+    if reads(word, b"nothing") {
+        return Some(Topic::NothingTaken);
+    }
     if reads(word, b"invariant") {
         return Some(Topic::Broken);
     }

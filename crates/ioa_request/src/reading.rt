@@ -7,6 +7,7 @@ ghost use Rattle.ioa_request.specs.CommandLine as asked;
 ghost use Rattle.ioa_request.specs.CommandLine.{IsAskedBy, Names};
 ghost use Rattle.ioa_request.specs.declared.request.Request.{Request};
 
+use crate::cut::is_bounded;
 use crate::pasted::pasted;
 use crate::request::Request;
 use crate::seeds::{asks_seeds, read_seeds};
@@ -16,7 +17,7 @@ use clap::ArgMatches;
 
 /// The request of a command line without a fault. None where a word is missing, which a parse rules out, where there is nothing to explain,
 /// where the invariants of a list are asked for, or invariants and states, or where the settings of a run, or of runs by many seeds, or the bounds
-/// of a chart, are none.
+/// of a chart, of a list or of a log, are none.
 pub fn read_request<'m>(matches: &'m ArgMatches<'_>) -> Option<Request<'m>>
     ensures some { IfSome result (λ asked. IsAskedBy (subcommand_rows_of matches.now) asked) }
     ensures none { IfNone result ((asked : Request) → IsAskedBy (subcommand_rows_of matches.now) asked → ⊥) }
@@ -49,6 +50,13 @@ pub fn is_set(found: &ArgMatches<'_>, flag: &str) -> bool
     }
 }
 
+/// Whether objects are asked for in place of text.
+fn asks_json(found: &ArgMatches<'_>) -> bool
+    ensures { result ≡ asked.is_set (codes "json") (rows_of (found_of found.now)) }
+{
+    is_set(found, "json")
+}
+
 /// Whether what comes of it is to be explained.
 pub fn is_explained(matches: &ArgMatches<'_>) -> bool
     ensures { result ≡ asked.is_explained (subcommand_rows_of matches.now) }
@@ -74,6 +82,9 @@ fn read_replay<'m>(found: &'m ArgMatches<'_>) -> Option<Request<'m>>
     ensures none { IfNone result ((asked : Request) → IsAskedBy (Some (codes "replay", rows_of (found_of found.now))) asked → ⊥) }
 {
     let (file, composition) = read_names(found)?;
+    if !is_bounded(found) {
+        return None;
+    }
     match (
         is_set(found, "log"),
         is_set(found, "invariants"),
@@ -94,7 +105,14 @@ fn read_log<'m>(found: &'m ArgMatches<'_>) -> Option<Request<'m>>
     ensures none { IfNone result ((asked : Request) → IsAskedBy (Some (codes "log", rows_of (found_of found.now))) asked → ⊥) }
 {
     let (file, composition) = read_names(found)?;
-    Some(Request::Log { file, composition })
+    if !is_bounded(found) {
+        return None;
+    }
+    if is_set(found, "log") {
+        Some(Request::LogByLog { file, composition })
+    } else {
+        Some(Request::Log { file, composition })
+    }
 }
 
 fn read_run<'m>(found: &'m ArgMatches<'_>) -> Option<Request<'m>>
@@ -114,6 +132,17 @@ fn read_monitor<'m>(found: &'m ArgMatches<'_>) -> Option<Request<'m>>
     ensures none { IfNone result ((asked : Request) → IsAskedBy (Some (codes "monitor", rows_of (found_of found.now))) asked → ⊥) }
 {
     let (file, composition) = read_names(found)?;
+    let json = asks_json(found);
+    if is_set(found, "strict") {
+        return Some(Request::StrictMonitor {
+            file,
+            composition,
+            json,
+        });
+    }
+    if json {
+        return Some(Request::MonitorJson { file, composition });
+    }
     Some(Request::Monitor { file, composition })
 }
 
@@ -125,11 +154,13 @@ fn read_watch<'m>(found: &'m ArgMatches<'_>) -> Option<Request<'m>>
     let compositions = found.get_strs("comp")?;
     let first = is_set(found, "first");
     let counts = is_set(found, "explain");
+    let json = asks_json(found);
     Some(Request::Watch {
         file,
         compositions,
         first,
         counts,
+        json,
     })
 }
 

@@ -1,10 +1,12 @@
 //! The command line, its subcommands with their arguments, and the requests that they make.
 
-ghost use Rattle.std.specs.Prelude.{◌≡◌, false, map, codes, IfOk, IsOkAnd};
-ghost use Rattle.clap.specs.Words.{FailsBy, app_of, fault_of, new_app, rule_of, shape_of, subcommand_of, subcommand_rows_of, with_subcommand};
-ghost use Rattle.ioa_request.specs.CommandLine.{IsLocal, check_app, comp_rule, compile_app, compositions_rule, dump_app, explain_app, explain_rule, file_rule, graph_app, invariants_rule, ioac_app, library_app, log_app, log_rule, monitor_app, out_rule, replay_app, states_rule, text_rule};
+ghost use Rattle.std.specs.Prelude.{◌≡◌, false, map, codes, IfOk};
+ghost use Rattle.clap.specs.Words.{App, FailsBy, Rule, app_of, fault_of, new_app, rule_of, subcommand_of, subcommand_rows_of, with_rule, with_subcommand};
+ghost use Rattle.ioa_request.specs.CommandLine.{IsLocal, check_app, comp_rule, compile_app, compositions_rule, dump_app, explain_app, explain_rule, file_rule, graph_app, invariants_rule, ioac_app, library_app, log_app, log_rule, out_rule, replay_app, states_rule, text_rule};
 
 use crate::chart_usage::chart_command;
+use crate::cut_usage::until_option;
+use crate::monitor_usage::monitor_command;
 use crate::run_usage::run_command;
 use crate::seeds::Seeds;
 use crate::selection::Selection;
@@ -48,6 +50,11 @@ pub enum Request<'a> {
         file: &'a str,
         composition: Option<&'a str>,
     },
+    /// To write the log on standard input, where it is of the run of a composition of a source, or of an object, as logs are written.
+    LogByLog {
+        file: &'a str,
+        composition: Option<&'a str>,
+    },
     /// To run a composition of a source, or an object.
     Run(Settings<'a>),
     /// To run a composition of a source, or an object, by each of many seeds.
@@ -57,6 +64,18 @@ pub enum Request<'a> {
         file: &'a str,
         composition: Option<&'a str>,
     },
+    /// To monitor the log on standard input, and to tell the answer as a JSON object.
+    MonitorJson {
+        file: &'a str,
+        composition: Option<&'a str>,
+    },
+    /// To monitor the log on standard input strictly: an action that has a name of the specification is not passed over, and one has to be taken.
+    StrictMonitor {
+        file: &'a str,
+        composition: Option<&'a str>,
+        /// Whether the answer is told as a JSON object.
+        json: bool,
+    },
     /// To watch the stream of actions on standard input by these compositions of a source.
     Watch {
         file: &'a str,
@@ -65,6 +84,8 @@ pub enum Request<'a> {
         first: bool,
         /// Whether it is told what each of them counted.
         counts: bool,
+        /// Whether objects are told.
+        json: bool,
     },
     /// To draw the log on standard input, as a chart of what a composition of a source, or an object, does.
     Chart {
@@ -224,90 +245,90 @@ fn check_command<'a>(alloc: Global) -> Result<Command<'a>, AllocError>
     ensures app { IfOk result (λ command. app_of command ≡ check_app) }
     ensures local { IfOk result IsLocal }
 {
-    Command::new(alloc, "check")
+    let command = Command::new(alloc, "check")
         .about("Parses and checks a source, or verifies an object, and prints ok where it is fine")
         .after_help(
             "Without --compositions, compositions of a source are composed by the other commands alone.\n\
              Example: ioac check --compositions protocol.ioa\n\
              Exit status: 0 done, 1 source or object refused, 2 bad command line, 5 memory, the file or a device.",
-        )
-        .arg(file_argument(alloc))?
-        .arg(compositions_flag(alloc))?
-        .arg(explain_flag(alloc))
+        );
+    let command = taking(Ok(command), file_argument(alloc));
+    let command = taking(command, compositions_flag(alloc));
+    taking(command, explain_flag(alloc))
 }
 
 fn compile_command<'a>(alloc: Global) -> Result<Command<'a>, AllocError>
     ensures app { IfOk result (λ command. app_of command ≡ compile_app) }
     ensures local { IfOk result IsLocal }
 {
-    Command::new(alloc, "compile")
+    let command = Command::new(alloc, "compile")
         .about("Compiles a composition, puts its object in a file, and prints ok")
         .after_help(
             "`check`, `replay`, `run` and `monitor` take the object in the place of a source.\n\
              OUT is replaced where it is an object, empty or cannot be read; any other file there is refused.\n\
              Example: ioac compile protocol.ioa protocol.object\n\
              Exit status: 0 done, 1 source refused, 2 bad command line or no source, 5 memory, a file or a device.",
-        )
-        .arg(source_argument(alloc))?
-        .arg(out_argument(alloc))?
-        .arg(composition_option(alloc))?
-        .arg(explain_flag(alloc))
+        );
+    let command = taking(Ok(command), source_argument(alloc));
+    let command = taking(command, out_argument(alloc));
+    let command = taking(command, composition_option(alloc));
+    taking(command, explain_flag(alloc))
 }
 
 fn dump_command<'a>(alloc: Global) -> Result<Command<'a>, AllocError>
     ensures app { IfOk result (λ command. app_of command ≡ dump_app) }
     ensures local { IfOk result IsLocal }
 {
-    Command::new(alloc, "dump")
+    let command = Command::new(alloc, "dump")
         .about("Prints the tables and the code of an object, an item a line")
         .after_help(
             "Types, variables, positions and constants have the numbers by which instructions name them.\n\
              Example: ioac dump protocol.object\n\
              Exit status: 0 done, 1 no object, 2 bad command line, 5 memory, the file or a device.",
-        )
-        .arg(object_argument(alloc))?
-        .arg(explain_flag(alloc))
+        );
+    let command = taking(Ok(command), object_argument(alloc));
+    taking(command, explain_flag(alloc))
 }
 
 fn explain_command<'a>(alloc: Global) -> Result<Command<'a>, AllocError>
     ensures app { IfOk result (λ command. app_of command ≡ explain_app) }
     ensures local { IfOk result IsLocal }
 {
-    Command::new(alloc, "explain")
+    let command = Command::new(alloc, "explain")
         .about("Says what a text means that the program printed, what gives it, and how to mend it")
         .after_help(
             "The first words tell, in capitals or not; more may stand behind them, and `end:` or `monitor:` before.\n\
              Example: ioac explain fault 3 in component 0 at 2\n\
              Exit status: 0 done, 2 bad command line or nothing to explain, 5 memory or a device.",
-        )
-        .arg(text_argument(alloc))?
-        .arg(explain_flag(alloc))
+        );
+    let command = taking(Ok(command), text_argument(alloc));
+    taking(command, explain_flag(alloc))
 }
 
 fn library_command<'a>(alloc: Global) -> Result<Command<'a>, AllocError>
     ensures app { IfOk result (λ command. app_of command ≡ library_app) }
     ensures local { IfOk result IsLocal }
 {
-    Command::new(alloc, "library")
+    let command = Command::new(alloc, "library")
         .about("Prints the library of link protocols, a source to check, run and replay")
         .after_help(
             "Example: ioac library > links.ioa\n\
              Exit status: 0 done, 2 bad command line, 5 memory or a device.",
-        )
-        .arg(explain_flag(alloc))
+        );
+    taking(Ok(command), explain_flag(alloc))
 }
 
 fn replay_command<'a>(alloc: Global) -> Result<Command<'a>, AllocError>
     ensures app { IfOk result (λ command. app_of command ≡ replay_app) }
     ensures local { IfOk result IsLocal }
 {
-    described_replay(alloc)
-        .arg(file_argument(alloc))?
-        .arg(composition_option(alloc))?
-        .arg(log_flag(alloc))?
-        .arg(invariants_flag(alloc))?
-        .arg(states_flag(alloc))?
-        .arg(explain_flag(alloc))
+    let command = taking(Ok(described_replay(alloc)), file_argument(alloc));
+    let command = taking(command, composition_option(alloc));
+    let command = taking(command, log_flag(alloc));
+    let command = taking(command, invariants_flag(alloc));
+    let command = taking(command, states_flag(alloc));
+    let command = taking(command, until_option(alloc));
+    taking(command, explain_flag(alloc))
 }
 
 /// The subcommand without its arguments. Its usage is written out, since invariants are asked of a log alone.
@@ -325,7 +346,7 @@ fn described_replay<'a>(alloc: Global) -> Command<'a>
              4 list or log refused, invariant broken, or ended not enabled or not an action, 5 memory, the file or a device.",
         )
         .override_usage(
-            "ioac replay [--comp <NAME>] [--log [--invariants]] [--states] [--explain] <FILE>",
+            "ioac replay [--comp <NAME>] [--log [--invariants]] [--states] [--until <N>] [--explain] <FILE>",
         )
 }
 
@@ -333,44 +354,35 @@ fn log_command<'a>(alloc: Global) -> Result<Command<'a>, AllocError>
     ensures app { IfOk result (λ command. app_of command ≡ log_app) }
     ensures local { IfOk result IsLocal }
 {
+    let command = taking(Ok(described_log(alloc)), file_argument(alloc));
+    let command = taking(command, composition_option(alloc));
+    let command = taking(command, log_flag(alloc));
+    let command = taking(command, until_option(alloc));
+    taking(command, explain_flag(alloc))
+}
+
+/// The subcommand without its arguments.
+fn described_log<'a>(alloc: Global) -> Command<'a>
+    ensures app { app_of result ≡ new_app (codes "log") }
+    ensures local { IsLocal result }
+{
     Command::new(alloc, "log")
         .about("Performs a list of actions, read on standard input, and prints the log of this run")
         .after_help(
             "The log has each action that is performed, with its worker, and last the end. An action that faults is its last entry;\n\
              where one is not enabled or none, the log ends as done before it. `replay --log` and `monitor` take the log.\n\
-             Example: ioac log protocol.ioa < actions.txt > run.log\n\
+             With --log a log is read, as by `replay --log`, and printed; with --until its beginning, as a log that is done.\n\
+             Example: ioac log --log --until 40 protocol.ioa < run.log > part.log\n\
              Exit status: 0 done, 1 source or object refused, 2 bad command line, 3 ended by a fault,\n\
-             4 list refused, or ended not enabled or not an action, 5 memory, the file or a device.",
+             4 list or log refused, or ended not enabled or not an action, 5 memory, the file or a device.",
         )
-        .arg(file_argument(alloc))?
-        .arg(composition_option(alloc))?
-        .arg(explain_flag(alloc))
-}
-
-fn monitor_command<'a>(alloc: Global) -> Result<Command<'a>, AllocError>
-    ensures app { IfOk result (λ command. app_of command ≡ monitor_app) }
-    ensures local { IfOk result IsLocal }
-{
-    Command::new(alloc, "monitor")
-        .about(
-            "Reads a log on standard input, and prints whether a composition accepts its actions",
-        )
-        .after_help(
-            "The composition has no internal action, and hides none. It is run on those of the log's actions that its components have.\n\
-             Example: ioac monitor specification.ioa < run.log\n\
-             Exit status: 0 accepted, 1 source or object refused, 2 bad command line,\n\
-             4 not accepted, log refused, or no monitor, 5 memory, the file or a device.",
-        )
-        .arg(file_argument(alloc))?
-        .arg(composition_option(alloc))?
-        .arg(explain_flag(alloc))
 }
 
 fn graph_command<'a>(alloc: Global) -> Result<Command<'a>, AllocError>
     ensures app { IfOk result (λ command. app_of command ≡ graph_app) }
     ensures local { IfOk result IsLocal }
 {
-    Command::new(alloc, "graph")
+    let command = Command::new(alloc, "graph")
         .about(
             "Prints a graph of a composition for Graphviz: its components, and the actions that they share",
         )
@@ -379,20 +391,34 @@ fn graph_command<'a>(alloc: Global) -> Result<Command<'a>, AllocError>
              an input that no component gives is an edge from the environment. Internal names stand in their component.\n\
              Example: ioac graph protocol.ioa > protocol.dot\n\
              Exit status: 0 done, 1 source or object refused, 2 bad command line, 5 memory, the file or a device.",
-        )
-        .arg(file_argument(alloc))?
-        .arg(composition_option(alloc))?
-        .arg(explain_flag(alloc))
+        );
+    let command = taking(Ok(command), file_argument(alloc));
+    let command = taking(command, composition_option(alloc));
+    taking(command, explain_flag(alloc))
 }
 
-/// The command with a subcommand, where there was memory to make that. So `program` holds no command where memory may end.
+/// A command with one argument more, where there has been memory for it. Who puts a command together by such calls holds
+/// none where memory may end.
+pub fn taking<'a>(
+    command: Result<Command<'a>, AllocError>,
+    argument: Arg<'a>,
+) -> Result<Command<'a>, AllocError>
+    ensures app { (app : App) (rule : Rule) → IfOk command.entry (λ c. app_of c ≡ app) → argument.entry.global ≡ false → rule_of argument.entry ≡ rule
+        → IfOk result (λ made. app_of made ≡ with_rule app rule) }
+    ensures local { IfOk command.entry IsLocal → argument.entry.global ≡ false → IfOk result IsLocal }
+{
+    command?.arg(argument)
+}
+
+/// A command with one subcommand more, where there has been memory for both.
 fn with<'a>(
-    command: Command<'a>,
+    command: Result<Command<'a>, AllocError>,
     subcommand: Result<Command<'a>, AllocError>,
 ) -> Result<Command<'a>, AllocError>
-    ensures { IfOk result (λ made. IsOkAnd subcommand.entry (λ added. IsLocal added → app_of made ≡ with_subcommand (app_of command.entry) (shape_of added))) }
+    ensures { (app added : App) → IfOk command.entry (λ c. app_of c ≡ app) → IfOk subcommand.entry (λ c. app_of c ≡ added) → IfOk subcommand.entry IsLocal
+        → IfOk result (λ made. app_of made ≡ with_subcommand app added.top) }
 {
-    command.subcommand(subcommand?)
+    command?.subcommand(subcommand?)
 }
 
 fn program<'a>(alloc: Global) -> Result<Command<'a>, AllocError>
@@ -403,17 +429,17 @@ fn program<'a>(alloc: Global) -> Result<Command<'a>, AllocError>
         .version(VERSION)
         .subcommand_required(true)
         .arg_required_else_help(true);
-    let command = with(command, check_command(alloc))?;
-    let command = with(command, compile_command(alloc))?;
-    let command = with(command, dump_command(alloc))?;
-    let command = with(command, replay_command(alloc))?;
-    let command = with(command, log_command(alloc))?;
-    let command = with(command, run_command(alloc))?;
-    let command = with(command, monitor_command(alloc))?;
-    let command = with(command, watch_command(alloc))?;
-    let command = with(command, chart_command(alloc))?;
-    let command = with(command, graph_command(alloc))?;
-    let command = with(command, explain_command(alloc))?;
+    let command = with(Ok(command), check_command(alloc));
+    let command = with(command, compile_command(alloc));
+    let command = with(command, dump_command(alloc));
+    let command = with(command, replay_command(alloc));
+    let command = with(command, log_command(alloc));
+    let command = with(command, run_command(alloc));
+    let command = with(command, monitor_command(alloc));
+    let command = with(command, watch_command(alloc));
+    let command = with(command, chart_command(alloc));
+    let command = with(command, graph_command(alloc));
+    let command = with(command, explain_command(alloc));
     with(command, library_command(alloc))
 }
 

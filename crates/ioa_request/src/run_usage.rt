@@ -2,9 +2,9 @@
 
 ghost use Rattle.std.specs.Prelude.{◌≡◌, false, codes, IfOk};
 ghost use Rattle.clap.specs.Words.{app_of, new_app, rule_of};
-ghost use Rattle.ioa_request.specs.CommandLine.{IsLocal, alone_rule, inputs_rule, log_rule, monitor_rule, reports_rule, resume_rule, run_app, seed_rule, seeds_rule, turns_rule, words_rule};
+ghost use Rattle.ioa_request.specs.CommandLine.{IsLocal, alone_rule, inputs_rule, invariants_rule, keep_rule, log_rule, monitor_rule, reports_rule, resume_rule, run_app, seed_rule, seeds_rule, turns_rule, words_rule};
 
-use crate::request::{composition_option, explain_flag, file_argument};
+use crate::request::{composition_option, explain_flag, file_argument, taking};
 use clap::{Arg, ArgAction, Command};
 use std::alloc::{AllocError, Global};
 
@@ -72,6 +72,30 @@ fn monitor_option<'a>(alloc: Global) -> Arg<'a>
         )
 }
 
+/// Whether each run is asked for the source's invariants.
+fn invariants_flag<'a>(alloc: Global) -> Arg<'a>
+    ensures rule { rule_of result ≡ invariants_rule }
+    ensures local { result.global ≡ false }
+{
+    Arg::new(alloc, "invariants")
+        .long("invariants")
+        .action(ArgAction::SetTrue)
+        .help(
+            "With --seeds: it is asked whether the states of each run keep the source's invariants",
+        )
+}
+
+/// The file for a log that is not accepted.
+fn keep_option<'a>(alloc: Global) -> Arg<'a>
+    ensures rule { rule_of result ≡ keep_rule }
+    ensures local { result.global ≡ false }
+{
+    Arg::new(alloc, "keep")
+        .long("keep")
+        .value_name("KFILE")
+        .help("With --seeds: a file, in which the shortest log is put that is refused")
+}
+
 fn inputs_option<'a>(alloc: Global) -> Arg<'a>
     ensures rule { rule_of result ≡ inputs_rule }
     ensures local { result.global ≡ false }
@@ -117,20 +141,21 @@ pub fn run_command<'a>(alloc: Global) -> Result<Command<'a>, AllocError>
     ensures app { IfOk result (λ command. app_of command ≡ run_app) }
     ensures local { IfOk result IsLocal }
 {
-    described_run(alloc)
-        .arg(file_argument(alloc))?
-        .arg(composition_option(alloc))?
-        .arg(alone_flag(alloc))?
-        .arg(turns_option(alloc))?
-        .arg(seed_option(alloc))?
-        .arg(words_option(alloc))?
-        .arg(seeds_option(alloc))?
-        .arg(monitor_option(alloc))?
-        .arg(inputs_option(alloc))?
-        .arg(resume_option(alloc))?
-        .arg(log_flag(alloc))?
-        .arg(reports_flag(alloc))?
-        .arg(explain_flag(alloc))
+    let command = taking(Ok(described_run(alloc)), file_argument(alloc));
+    let command = taking(command, composition_option(alloc));
+    let command = taking(command, alone_flag(alloc));
+    let command = taking(command, turns_option(alloc));
+    let command = taking(command, seed_option(alloc));
+    let command = taking(command, words_option(alloc));
+    let command = taking(command, seeds_option(alloc));
+    let command = taking(command, monitor_option(alloc));
+    let command = taking(command, invariants_flag(alloc));
+    let command = taking(command, keep_option(alloc));
+    let command = taking(command, inputs_option(alloc));
+    let command = taking(command, resume_option(alloc));
+    let command = taking(command, log_flag(alloc));
+    let command = taking(command, reports_flag(alloc));
+    taking(command, explain_flag(alloc))
 }
 
 /// The subcommand without its arguments. Its usage is written out, since a seed, a file of words and numbers of seeds are not given together.
@@ -147,12 +172,15 @@ fn described_run<'a>(alloc: Global) -> Command<'a>
              With --seeds each line has the 64 digits of a seed and the end of its run; the last line counts them. Such runs have\n\
              no seed, words, log or reports of their own, and go on from none. With --monitor each line has the specification's answer, too,\n\
              as `ioac monitor` gives it of the run's log: `Spec: ok`, or why not. The source has the specifications.\n\
+             With --invariants behind that stands the first of the source's invariants that is broken, as `ioac replay --log --invariants`\n\
+             prints it of the run's log: `invariants: ok`, or `invariant 0 of component 1 broken after 7`.\n\
+             KFILE is new, empty or a log, and gets the shortest log that is refused by one of these, the first of those that have as few entries.\n\
              RFILE has a log as `ioac run --log` prints it: the run begins with its actions; turns, words and inputs begin anew.\n\
              Example: ioac run --alone --turns 20 protocol.ioa\n\
              Exit status: 0 done, 1 source or object refused, 2 bad command line, words or turns, 3 ended by a fault,\n\
              4 inputs or log refused, a run not accepted, or no specification, 5 memory, a thread, a file or a device.",
         )
         .override_usage(
-            "ioac run [--comp <NAME>] [--alone] [--turns <N>] [--seed <HEX>|--words <WFILE>|--seeds <A..B> [--monitor <SPEC>]..] [--inputs <LFILE>] [--resume <RFILE>] [--log] [--reports] [--explain] <FILE>",
+            "ioac run [--comp <NAME>] [--alone] [--turns <N>] [--seed <HEX>|--words <WFILE>|--seeds <A..B> [--monitor <SPEC>].. [--invariants] [--keep <KFILE>]] [--inputs <LFILE>] [--resume <RFILE>] [--log] [--reports] [--explain] <FILE>",
         )
 }

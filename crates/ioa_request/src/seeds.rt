@@ -25,6 +25,10 @@ pub struct Seeds<'a> {
     pub last: u64,
     /// The compositions that are asked whether they accept each run.
     pub monitors: &'a [&'a str],
+    /// Whether it is asked if the states of each run keep the source's invariants.
+    pub invariants: bool,
+    /// The file for the shortest log that is not accepted, or whose states break an invariant, if one is to be kept.
+    pub keep: Option<&'a str>,
 }
 
 /// The runs that words without a fault ask for. None where no numbers of seeds are given, or none that are a range, where the settings are
@@ -37,12 +41,16 @@ pub fn read_seeds<'m>(found: &'m ArgMatches<'_>) -> Option<Seeds<'m>>
     let (first, last) = read_range(word)?;
     let run = read_settings(found)?;
     let monitors = all_given(found, "monitor");
+    let invariants = is_set(found, "invariants");
+    let keep = found.get_str("keep");
     if admits_seeds(found) {
         Some(Seeds {
             run,
             first,
             last,
             monitors,
+            invariants,
+            keep,
         })
     } else {
         None
@@ -60,7 +68,10 @@ fn all_given<'m>(found: &'m ArgMatches<'_>, option: &str) -> &'m [&'m str]
 pub fn asks_seeds(found: &ArgMatches<'_>) -> bool
     ensures { result ≡ asked.asks_seeds (rows_of (found_of found.now)) }
 {
-    is_given(found, "seeds") || is_given(found, "monitor")
+    is_given(found, "seeds")
+        || is_given(found, "monitor")
+        || is_given(found, "keep")
+        || is_set(found, "invariants")
 }
 
 /// The first number and the last one of `A..B`, if the word is that of two numbers of 64 bits, of which the first is no greater.

@@ -17,6 +17,10 @@ pub enum Topic {
     NotAnAction,
     /// An action whose precondition is false.
     NotEnabled,
+    /// An action that has a name of a specification's, and is none of its actions.
+    PassedOver,
+    /// A log of which a specification takes no action.
+    NothingTaken,
     /// An invariant that a state breaks.
     Broken,
     /// A file or a log that is as it should be.
@@ -39,6 +43,8 @@ impl fmt::Display for Topic {
             Topic::Done => f.write_str("done"),
             Topic::NotAnAction => f.write_str("not an action"),
             Topic::NotEnabled => f.write_str("not enabled"),
+            Topic::PassedOver => f.write_str("passed over"),
+            Topic::NothingTaken => f.write_str("nothing taken"),
             Topic::Broken => f.write_str("invariant broken"),
             Topic::Fine => f.write_str("ok"),
         }

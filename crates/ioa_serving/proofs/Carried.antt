@@ -1,5 +1,5 @@
 -- An object that is compiled of a source does as the source: its program is the one that was compiled.
-use Rattle.std.proofs.Common.{◌≡◌, ℕ, List, Option, true, sym, ap, ◌∙◌, subst}
+use Rattle.std.proofs.Common.{◌≡◌, ℕ, Bool, List, Option, true, sym, ap, ◌∙◌, subst}
 use Rattle.std.specs.Io.KnownBytes.{Appends}
 use Rattle.std.proofs.lemmas.Bool.{false≢true}
 use Rattle.ioa_value.specs.Actions.{Act, Name}
@@ -16,7 +16,7 @@ use Rattle.ioa_object.proofs.ObjectLaws.{one_program}
 use Rattle.ioa_system.specs.Logs.{actions_of}
 use Rattle.ioa_system.proofs.Hosting.{host_run, host_trace}
 use Rattle.ioa_log.specs.Judging.{agrees}
-use Rattle.ioa_log.specs.LogTexts.{ReadsLog}
+use Rattle.ioa_log.specs.LogTexts.{ReadsLog, log_text}
 use Rattle.ioa_log.specs.Replays.{Replays, replay_text, run_text}
 use Rattle.ioa_log.specs.RunLogs.{WritesRunLog}
 use Rattle.ioa_log.proofs.Hosting.{hosts_judged, hosts_monitored, hosts_seen}
@@ -24,9 +24,10 @@ use Rattle.ioa_log.proofs.Judged.{judged_means}
 use Rattle.ioa_log.proofs.LoggedLists.{hosts_alike, source_alike, writes_alike}
 use Rattle.ioa_log.proofs.Monitored.{hides_means, monitored_means}
 use Rattle.ioa_picture.specs.Graphs.{graph}
-use Rattle.ioa_serving.specs.Carried.{ChartsAsSource, GraphsAsSource, LogsListsAsSource, MonitorsAsSource, ReplaysAsSource, ReplaysLogsAsSource}
+use Rattle.ioa_serving.specs.Carried.{ChartsAsSource, GraphsAsSource, LogsListsAsSource, LogsLogsAsSource, MonitorsAsSource, ReplaysAsSource, ReplaysLogsAsSource}
 use Rattle.ioa_serving.specs.Compiling.{IsCompiled}
 use Rattle.ioa_serving.specs.Headline.{IsFileOf, begins_object}
+use Rattle.ioa_serving.specs.LogLogs.{WritesLog}
 use Rattle.ioa_serving.specs.Logs.{Monitors, ReplaysLog, performed_in}
 use Rattle.ioa_picture.specs.Selections.{Selection}
 use Rattle.ioa_serving.specs.Pictures.{ChartsLog}
@@ -60,6 +61,14 @@ module _ (p : Prog) (h : Hosted) (c : Composed) (s : Simulates h c) (m : Impleme
     subst (λ (bs : List ℕ). Appends before after bs) (same_text (actions_of log)) text,
   )
 
+  hosts_log_again : (bytes : List ℕ) (end : Ending) (before after : Option (List ℕ)) → WritesLog (of_table p) bytes end before after → WritesLog (of_hosts h) bytes end before after
+  hosts_log_again bytes end before after (log, (reads, agree), ends, text) = (
+    log,
+    (subst (λ ts. ReadsLog ts bytes log) (m.types ∙ s.types) reads, hosts_judged h c s log agrees (judged_means p c log m ∙ agree)),
+    ends ∙ same_ending (actions_of log),
+    subst (λ ts. Appends before after (log_text ts log)) (m.types ∙ s.types) text,
+  )
+
   hosts_log : (bytes : List ℕ) (end : Ending) (before after : Option (List ℕ)) → WritesRunLog p.types (tabled p) (start_states p) bytes end before after
       → WritesRunLog h.types (hosts_of h) (host_starts h) bytes end before after
   hosts_log bytes end before after k =
@@ -75,8 +84,9 @@ module _ (p : Prog) (h : Hosted) (c : Composed) (s : Simulates h c) (m : Impleme
     subst (λ (bs : List ℕ). Appends before after bs) (charted_as selection p (of_hosts h) log (c, s, m)) text,
   )
 
-  hosts_monitor : (bytes : List ℕ) (answer : Option Ending) (before after : Option (List ℕ)) → Monitors (of_table p) bytes answer before after → Monitors (of_hosts h) bytes answer before after
-  hosts_monitor bytes answer before after (seen, (log, reads, answered, text)) = (
+  hosts_monitor : (json : Bool) (bytes : List ℕ) (answer : Option Ending) (before after : Option (List ℕ)) → Monitors json (of_table p) bytes answer before after
+      → Monitors json (of_hosts h) bytes answer before after
+  hosts_monitor json bytes answer before after (seen, (log, reads, answered, text)) = (
     hosts_seen h c s (hides_means p c m ∙ seen),
     (
       log,
@@ -111,6 +121,10 @@ list_logs_as_source text object name of bytes end before after =
     carried (λ x. WritesRunLog (its_types x) (its_components x) (its_starts x) bytes end before after) text object name of
     (λ p h c s m k. hosts_log p h c s m bytes end before after k)
 
+pub log_logs_as_source : LogsLogsAsSource
+log_logs_as_source text object name of bytes end before after =
+    carried (λ x. WritesLog x bytes end before after) text object name of (λ p h c s m k. hosts_log_again p h c s m bytes end before after k)
+
 pub charts_as_source : ChartsAsSource
 charts_as_source text object name of selection bytes end before after =
     carried (λ x. ChartsLog selection x bytes end before after) text object name of (λ p h c s m k. hosts_chart p h c s m selection bytes end before after k)
@@ -121,5 +135,5 @@ graphs_as_source text object name of before after (h, gives, (p, runs, is)) (q, 
     (p, (of_hosts h, gives, runs), subst (λ x. Appends before after (graph x)) (same ∙ one_program object k p given.object is) drawn)
 
 pub monitors_as_source : MonitorsAsSource
-monitors_as_source text object name of bytes answer before after =
-    carried (λ x. Monitors x bytes answer before after) text object name of (λ p h c s m k. hosts_monitor p h c s m bytes answer before after k)
+monitors_as_source json text object name of bytes answer before after =
+    carried (λ x. Monitors json x bytes answer before after) text object name of (λ p h c s m k. hosts_monitor p h c s m json bytes answer before after k)

@@ -2,6 +2,7 @@
 use Rattle.std.proofs.Common.{ℕ, List, Option, Err, inr, refl}
 use Rattle.std.specs.Result.{IsErrOf}
 use Rattle.ioa_value.specs.Actions.{Name}
+use Rattle.ioa_object.specs.Spelling.{mark}
 use Rattle.ioa_serving.specs.declared.failure.Failure.{Failure}
 use Rattle.ioa_serving.specs.declared.store.StoreErr.{StoreErr}
 use Rattle.ioa_serving.specs.Compiling.{IsCompiled, IsUncompiled, IsUnmade}
@@ -28,7 +29,7 @@ unmade f file out name output text Failure.OutOfMemory held k same keeps = (same
 
 -- the object is not put in its file
 pub unsaved : (f : Files) (file out : Name) (name : Option Name) (output : Change) (text object : List ℕ) (x : StoreErr) {T : Type 0} → f.holds file text → IsCompiled text name object
-    → (IsErrOf {T = T} (Err x) StoreErr.Io → f.blocks out) → f.kept → Untouched output → IsUnmade f file out name output (failure_of x)
+    → (IsErrOf {T = T} (Err x) StoreErr.Io → f.blocks mark out) → f.kept → Untouched output → IsUnmade f file out name output (failure_of x)
 unsaved f file out name output text object StoreErr.Io held compiled io same keeps =
     (inr (io refl, (text, object, held, compiled)), same, keeps)
 unsaved f file out name output text object StoreErr.OutOfMemory held compiled io same keeps = (same, keeps)

@@ -17,7 +17,7 @@ use Rattle.ioa_system.specs.Outcomes.{ending_of}
 use Rattle.ioa_run.specs.declared.outcome.Outcome.{Outcome}
 use Rattle.ioa_run.specs.Alone.{IsFirstOther, IsInput, RefusesResumed}
 use Rattle.ioa_run.specs.declared.run_err.RunErr.{RunErr}
-use Rattle.ioa_serving.specs.Seeds.{Judged, dones_among, faults_among, refusals_among, refusals_from, seed_line, seed_lines, with_refusals}
+use Rattle.ioa_serving.specs.Seeds.{Judged, broken_among, dones_among, faults_among, is_broken, refusals_among, refusals_from, seed_line, seed_lines, with_refusals}
 use Rattle.ioa_serving.specs.declared.seed_counts.Counts.{Counts}
 use Rattle.ioa_serving.specs.declared.sown.Sown.{Sown}
 use Rattle.ioa_serving.specs.SeedRuns.{AreSeedJudgments, IsCountOf, IsSeedJudgment}
@@ -47,6 +47,9 @@ faults_more js j = one_more (λ x. is_fault x.log.ending) js j
 
 pub dones_more : (js : List Judged) (j : Judged) → dones_among (js ++ j ∷ []) ≡ dones_among js + cond (not (is_fault j.log.ending)) 1 0
 dones_more js j = one_more (λ x. not (is_fault x.log.ending)) js j
+
+pub broken_more : (js : List Judged) (j : Judged) → broken_among (js ++ j ∷ []) ≡ broken_among js + cond (is_broken j) 1 0
+broken_more js j = one_more is_broken js j
 
 one_counted : (b : Bool) (d f n : ℕ) → d + f ≡ n → ((0 + cond (not b) 1 0) + d) + ((0 + cond b 1 0) + f) ≡ suc n
 one_counted true d f n e = omega arith
@@ -143,7 +146,7 @@ with_none (n ∷ ns) (b ∷ answers) zero a at none lt =
     ap₂ (λ (c : Bool) (ms : List ℕ). (if c then n + 1 else n) ∷ ms) (ap is_some same ∙ none) (with_nothing ns)
 with_none (n ∷ ns) (b ∷ answers) (suc i) a at none lt = ap (λ ms. (if is_some b then n + 1 else n) ∷ ms) (with_none ns answers i a at none (omega arith))
 
-some_mapped : (o : Option End) → is_some (option_map ending_of o) ≡ is_some o
+pub some_mapped : (o : Option End) → is_some (option_map ending_of o) ≡ is_some o
 some_mapped None = refl
 some_mapped (Some e) = refl
 
@@ -196,9 +199,11 @@ only_memory p before script turns o RunErr.OutOfMemory fine own k = refl
 
 -- the counts of one more
 pub counted_more : (k : ℕ) (c d : Counts) (js : List Judged) (j : Judged) → IsCountOf k c js → d.done ≡ c.done + cond (not (is_fault j.log.ending)) 1 0
-    → d.fault ≡ c.fault + cond (is_fault j.log.ending) 1 0 → d.refusals.items ≡ with_refusals c.refusals.items j.answers → IsCountOf k d (js ++ j ∷ [])
-counted_more k c d js j so done fault refusals = record {
+    → d.fault ≡ c.fault + cond (is_fault j.log.ending) 1 0 → d.refusals.items ≡ with_refusals c.refusals.items j.answers → d.broken ≡ c.broken + cond (is_broken j) 1 0
+    → IsCountOf k d (js ++ j ∷ [])
+counted_more k c d js j so done fault refusals broken = record {
   done = done ∙ ap (λ n. n + cond (not (is_fault j.log.ending)) 1 0) so.done ∙ sym (dones_more js j);
   fault = fault ∙ ap (λ n. n + cond (is_fault j.log.ending) 1 0) so.fault ∙ sym (faults_more js j);
   refusals = refusals ∙ ap (λ ns. with_refusals ns j.answers) so.refusals ∙ sym (refusals_more (replicate k 0) js j);
+  broken = broken ∙ ap (λ n. n + cond (is_broken j) 1 0) so.broken ∙ sym (broken_more js j);
 }

@@ -1,18 +1,22 @@
 -- From a program's runs by many seeds to what is told of what it runs as.
-use Rattle.std.proofs.Common.{◌≡◌, ◌⊎◌, ◌∙◌, ◌++◌, ◌==◌, ◌≤◌, ◌<◌, ◌+◌, ◌-◌, ◌^◌, ℕ, suc, List, [], ◌∷◌, Option, Some, Ok, Err, ap, ap₂, arith, inl, inr, length, map, refl, subst, sym, take}
-use Rattle.std.specs.Io.KnownBytes.{Appends, Keeps}
+use Rattle.std.proofs.Common.{◌≡◌, ◌⊎◌, ◌∙◌, ℕ, suc, Bool, true, false, IfSome, List, [], ◌∷◌, Option, None, Some, Ok, Err, ap, inl, inr, length, map, option_map, refl, subst, sym}
 use Rattle.std.specs.List.{AllZip}
+use Rattle.std.specs.Option.{option_copied}
 use Rattle.std.specs.Result.{IsErrOf}
-use Rattle.std.proofs.KnownBytes.{Appends-trans}
 use Rattle.ioa_value.specs.Actions.{Act, Name, act_of}
+use Rattle.ioa_value.specs.Table.{Table}
 use Rattle.ioa_tree.specs.Hosts.{Hosted}
+use Rattle.ioa_tree.specs.Invariants.{Broken}
 use Rattle.ioa_tree.specs.Runs.{Ending}
+use Rattle.ioa_compose.specs.declared.composition.Composition.{Composition}
+use Rattle.ioa_compose.specs.Held.{composed_of}
+use Rattle.ioa_compose.proofs.StandLemmas.{stands_broken}
 use Rattle.ioa_compile.specs.Programs.{Prog}
 use Rattle.ioa_compile.specs.Subjects as compiled
 use Rattle.ioa_compile.specs.Subjects.{InSlots}
 use Rattle.ioa_compile.specs.Tables.{start_states, tabled}
 use Rattle.ioa_compile.proofs.Subjects.{does_as}
-use Rattle.ioa_system.specs.Logs.{Logged, log_end, logged}
+use Rattle.ioa_system.specs.Logs.{Logged, actions_of, log_end, logged}
 use Rattle.ioa_log.proofs.Monitored.{monitored_like}
 use Rattle.ioa_run.specs.declared.outcome.Outcome.{Outcome}
 use Rattle.ioa_run.specs.Alone.{IsOutcomeFrom, RefusesResumed}
@@ -24,26 +28,27 @@ use Rattle.ioa_serving.specs.HasRun.{HasReady}
 use Rattle.ioa_serving.specs.Logs.{answer_to, performed_in}
 use Rattle.ioa_serving.specs.Running.{Runs, RunsAs}
 use Rattle.ioa_serving.specs.Streams.{key_words}
-use Rattle.ioa_serving.specs.Subjects.{Subject, of_hosts}
+use Rattle.ioa_serving.specs.Subjects.{Subject, of_hosts, of_table}
 use Rattle.ioa_serving.proofs.Given.{key_given}
 use Rattle.ioa_serving.proofs.Going.{resumed_as}
 use Rattle.ioa_serving.proofs.Hosted.{count_same, inputs_same, is_run, log_of}
 use Rattle.ioa_serving.proofs.RoundRobin.{turned}
 use Rattle.ioa_serving.proofs.Unrun.{unrun_by}
-use Rattle.ioa_log.specs.declared.failure.LogErr.{LogErr}
 use Rattle.ioa_run.specs.declared.run_err.RunErr.{RunErr}
 use Rattle.ioa_serving.specs.declared.failure.Failure.{Failure}
-use Rattle.ioa_serving.specs.declared.seed_counts.Counts.{Counts}
+use Rattle.ioa_serving.specs.declared.seed_tally.Tally.{Tally}
 use Rattle.ioa_serving.specs.declared.sown.Sown.{Sown}
 use Rattle.ioa_request.specs.declared.seeds.Seeds.{Seeds}
 use Rattle.ioa_request.specs.declared.settings.Settings.{Settings}
 use Rattle.ioa_serving.specs.declared.ready.Ready.{Ready}
 use Rattle.ioa_serving.specs.declared.status.Status.{Status}
-use Rattle.ioa_serving.specs.Seeds.{AreSeedsJudged, IsAnswerOf, IsSeedJudged, IsSeedsCut, IsSeedsServed, IsSeedsUnserved, IsUnmonitored, Judged, counts_line, counts_status, dones_among, faults_among, monitors_of, refusals_among, seed_lines, seeds_count, seeds_text, with_seed}
-use Rattle.ioa_serving.specs.SeedRuns.{AreSeedJudgments, HasSown, IsBegun, IsNoneRun, IsSeedJudgment, IsSeedRefused, IsSeedRun, IsSpecification, IsTold, table_answer}
+use Rattle.ioa_serving.specs.Devices.{Files}
+use Rattle.ioa_serving.specs.Placing.{log_mark}
+use Rattle.ioa_serving.specs.Seeds.{AreSeedsJudged, AreSown, IsAnswerOf, IsInspected, IsKeptIn, IsSeedJudged, IsSeedsServed, IsSeedsUnserved, IsShortest, IsUnkeepable, Judged, counts_status, monitors_of, seeds_text, with_seed}
+use Rattle.ioa_serving.specs.SeedRuns.{AreSeedJudgments, HasSown, IsBegun, IsNoneRun, IsSeedJudgment, IsSeedRefused, IsSeedRun, IsSpecification, IsTold, StandsFor, broken_in, table_answer}
 use Rattle.ioa_serving.specs.Serving.{run_failure}
-use Rattle.ioa_serving.proofs.Pieces.{begun_last}
-use Rattle.ioa_serving.proofs.SeedLines.{all_counted, refusals_count}
+use Rattle.ioa_serving.proofs.SeedsTold.{status_same}
+use Rattle.ioa_serving.proofs.Subjects.{types_as}
 
 -- what came of a run on one thread, by its words
 came_alone : (holds : Name → List ℕ → Type 0) (s : Settings) (p : Prog) (o : Outcome) (x : Subject) (script : List Act) (before : Logged) → IsReady holds s x script before → RunsAs p x
@@ -106,97 +111,86 @@ module _ (holds : Name → List ℕ → Type 0) (lacks : Name → Type 0) (s : S
       thread : IsErrOf {T = Unit {0}} (Err e) RunErr.Threads → e ≡ RunErr.Threads
       thread is = cc
 
-module _ (holds : Name → List ℕ → Type 0) (lacks : Name → Type 0) (s : Seeds) (w : Sown) (k : HasSown holds s w) (old mid : Option (List ℕ)) where
-  seed_judged : (n : ℕ) (j : Judged) → IsSeedJudgment w s.run.turns n j → IsSeedJudged holds s.run k.ready.subject k.text (monitors_of s) (map act_of w.ready.script.items) n j
+-- what the composition breaks, the hosts break
+inspected_as : (asked : Bool) (x : Subject) (c : Option Composition) (log : Logged) (o : Option (Option Broken)) → StandsFor asked x c → o ≡ broken_in c log → IsInspected asked x log o
+inspected_as false x c log o none is = is ∙ ap (λ d. broken_in d log) none
+inspected_as true (of_hosts h) (Some c) log o stands is = is ∙ ap Some (sym (stands_broken h (composed_of c) stands (actions_of log)))
+inspected_as true (of_hosts h) None log o stands is = absurd stands
+inspected_as true (of_table p) c log o stands is = absurd stands
+
+-- so many specifications answer
+pub names_count : (holds : Name → List ℕ → Type 0) (s : Seeds) (w : Sown) → HasSown holds s w → length w.specifications.items ≡ length (monitors_of s)
+names_count holds s w k = go (monitors_of s) w.specifications.items k.specified
+  where
+    go : (names : List Name) (ps : List Prog) → AllZip (IsSpecification k.text) names ps → length ps ≡ length names
+    go [] [] h = refl
+    go [] (p ∷ ps) h = absurd h
+    go (name ∷ names) [] h = absurd h
+    go (name ∷ names) (p ∷ ps) h = ap suc (go names ps h.1)
+
+module _ (f : Files) (s : Seeds) (w : Sown) (k : HasSown f.holds s w) (room : IfSome (option_copied s.keep) (f.yields log_mark)) where
+  seed_judged : (n : ℕ) (j : Judged) → IsSeedJudgment w s.run.turns n j → IsSeedJudged f.holds s.run k.ready.subject k.text (monitors_of s) s.invariants (map act_of w.ready.script.items) n j
   seed_judged n j u =
-      let c = seed_came holds lacks s.run w.ready k.ready n j.log u.run in
+      let c = seed_came f.holds f.lacks s.run w.ready k.ready n j.log u.run in
       record {
         reports = u.run.outcome.reports.items;
         came = c.0;
         same_script = c.1;
         memory = u.run.memory;
         answers = subst (λ (answers : List (Option Ending)). AllZip (IsAnswerOf k.text j.log) (monitors_of s) answers) (sym u.answers) (answers_as k.text j.log (monitors_of s) w.specifications.items k.specified);
+        inspected = inspected_as s.invariants k.ready.subject w.composition j.log j.inspected k.stands u.inspected;
       }
 
-  pub seeds_judged : (n : ℕ) (js : List Judged) → AreSeedJudgments w s.run.turns n js
-      → AreSeedsJudged holds s.run k.ready.subject k.text (monitors_of s) (map act_of w.ready.script.items) n js
+  seeds_judged : (n : ℕ) (js : List Judged) → AreSeedJudgments w s.run.turns n js
+      → AreSeedsJudged f.holds s.run k.ready.subject k.text (monitors_of s) s.invariants (map act_of w.ready.script.items) n js
   seeds_judged n [] h = tt
   seeds_judged n (j ∷ js) h = (seed_judged n j h.0, seeds_judged (suc n) js h.1)
 
-  -- so many specifications answer
-  pub names_count : length w.specifications.items ≡ length (monitors_of s)
-  names_count = go (monitors_of s) w.specifications.items k.specified
-    where
-      go : (names : List Name) (ps : List Prog) → AllZip (IsSpecification k.text) names ps → length ps ≡ length names
-      go [] [] h = refl
-      go [] (p ∷ ps) h = absurd h
-      go (name ∷ names) [] h = absurd h
-      go (name ∷ names) (p ∷ ps) h = ap suc (go names ps h.1)
-
-  cut_here : (js : List Judged) → length js ≤ seeds_count s → AreSeedJudgments w s.run.turns s.first js → (failed : Type 0) (new : Option (List ℕ)) (e : Failure)
-      → IsSeedsCut s js failed old new e → IsSeedsUnserved holds lacks s failed old new e
-  cut_here js few runs failed new e h = inr (record {
+  are_sown : (js : List Judged) → AreSeedJudgments w s.run.turns s.first js → AreSown f s js
+  are_sown js runs = record {
     text = k.text;
     held = k.held;
     subject = k.ready.subject;
     gives = k.gives;
     script = map act_of w.ready.script.items;
-    judged = js;
-    few = few;
     runs = seeds_judged s.first js runs;
-    cut = h;
-  })
+    yields = room;
+  }
 
   -- nothing was run, or not all is told
-  pub unserved : (failed : Type 0) (e : Failure) → IsNoneRun w s.run.turns old mid e ⊎ IsBegun w s failed old mid e → IsSeedsUnserved holds lacks s failed old mid e
-  unserved failed e (inl h) = inl (inl (subst (IsUnrun holds lacks s.run) (sym h.0.1) (none_run holds lacks s.run w.ready k.ready h.0.0 h.0.2)), h.1)
-  unserved failed e (inr h) = cut_here h.judged h.few h.runs failed mid e h.cut
+  pub unserved : (old new : Option (List ℕ)) (failed : Type 0) (e : Failure) → f.kept → IsNoneRun w s.run.turns old new e ⊎ IsBegun w s failed old new e → IsSeedsUnserved f s failed old new e
+  unserved old new failed e same (inl h) =
+      (same, inl (inl (subst (IsUnrun f.holds f.lacks s.run) (sym h.0.1) (none_run f.holds f.lacks s.run w.ready k.ready h.0.0 h.0.2)), h.1))
+  unserved old new failed e same (inr h) = (same, inr (inl (record { judged = h.judged; few = h.few; sown = are_sown h.judged h.runs; cut = h.cut })))
 
-  module _ (c : Counts) (js : List Judged) (told : IsTold w s old mid c js) where
-    -- the counts can be added up
-    pub addable : c.done + c.fault < 2 ^ 128
-    addable = omega (arith, told.counted.done, told.counted.fault, all_counted js, told.within)
-
-    -- and there is one for each specification
-    pub counted_all : length c.refusals.items ≡ length (monitors_of s)
-    counted_all = ap length told.counted.refusals ∙ refusals_count (length w.specifications.items) js ∙ names_count
-
-    refusals_same : c.refusals.items ≡ refusals_among (length (monitors_of s)) js
-    refusals_same = told.counted.refusals ∙ ap (λ n. refusals_among n js) names_count
-
-    all_text : seed_lines (monitors_of s) s.first js ++ counts_line (monitors_of s) c.done c.fault c.refusals.items ≡ seeds_text (monitors_of s) s.first js
-    all_text =
-        ap₂ (λ d f. seed_lines (monitors_of s) s.first js ++ counts_line (monitors_of s) d f c.refusals.items) told.counted.done told.counted.fault
-        ∙ ap (λ ns. seed_lines (monitors_of s) s.first js ++ counts_line (monitors_of s) (dones_among js) (faults_among js) ns) refusals_same
-
-    -- all is told
-    pub served : (new : Option (List ℕ)) (done : Status) → Appends mid new (counts_line (monitors_of s) c.done c.fault c.refusals.items) → done ≡ counts_status c.fault c.refusals.items
-        → IsSeedsServed holds s old new done
-    served new done line status = record {
-      text = k.text;
-      held = k.held;
-      subject = k.ready.subject;
-      gives = k.gives;
-      script = map act_of w.ready.script.items;
+  module _ (old new : Option (List ℕ)) (t : Tally) (js : List Judged) (told : IsTold w s (seeds_text (monitors_of s) s.invariants s.first js) old new t js) where
+    -- all is told, and a log is kept, where there is one to be
+    pub served : (types : Table) (done : Status) → types ≡ w.ready.program.types → IsKeptIn f types (option_copied s.keep) (option_map logged t.shortest)
+        → done ≡ counts_status t.counts.fault t.counts.refusals.items t.counts.broken → IsSeedsServed f s old new done
+    unfolding are_sown
+    served types done same keeps status = record {
       judged = js;
       count = told.count;
-      runs = seeds_judged s.first js told.runs;
-      output = subst (Appends old new) all_text
-          (Appends-trans old mid new (seed_lines (monitors_of s) s.first js) (counts_line (monitors_of s) c.done c.fault c.refusals.items) told.output line);
-      status = status ∙ ap₂ counts_status told.counted.fault refusals_same;
+      sown = are_sown js told.runs;
+      output = told.output;
+      shortest = option_map logged t.shortest;
+      is_shortest = told.tallied.1;
+      keeps = subst (λ (ts : Table). IsKeptIn f ts (option_copied s.keep) (option_map logged t.shortest)) (same ∙ types_as w.ready.program k.ready.subject k.ready.runs) keeps;
+      status = status ∙ status_same w s (names_count f.holds s w k) t js told.tallied;
     }
 
-    few : length js ≤ seeds_count s
-    few = omega (arith, told.count)
-
-    -- memory was short for the counts
-    pub uncounted : (failed : Type 0) → IsSeedsUnserved holds lacks s failed old mid Failure.OutOfMemory
-    uncounted failed = cut_here js few told.runs failed mid Failure.OutOfMemory (inr (inr refl, told.output))
-
-    -- the device failed at them
-    pub cut_in_counts : (failed : Type 0) (new : Option (List ℕ)) → failed → (n : ℕ) × Appends mid new (take n (counts_line (monitors_of s) c.done c.fault c.refusals.items))
-        → IsSeedsUnserved holds lacks s failed old new (Failure.List LogErr.Io)
-    cut_in_counts failed new f begun =
-        let b = begun_last old mid new (seed_lines (monitors_of s) s.first js) (counts_line (monitors_of s) c.done c.fault c.refusals.items) told.output begun in
-        cut_here js few told.runs failed new (Failure.List LogErr.Io)
-        (inl (refl, f, (seeds_text (monitors_of s) s.first js, b.0, inr (told.count, refl), subst (λ t. Appends old new (take b.0 t)) all_text b.1)))
+    -- or it is not
+    pub unkept : (failed : Type 0) (e : Failure) → f.kept → (log : Logged) × (option_map logged t.shortest ≡ Some log) × IsUnkeepable (f.blocks log_mark) (option_copied s.keep) e
+        → IsSeedsUnserved f s failed old new e
+    unkept failed e same h = (
+      same,
+      inr (inr (record {
+        judged = js;
+        count = told.count;
+        sown = are_sown js told.runs;
+        output = told.output;
+        shortest = h.0;
+        is_shortest = subst (IsShortest js) h.1 told.tallied.1;
+        unkeepable = h.2;
+      })),
+    )

@@ -1,7 +1,10 @@
 -- What runs by many seeds are given, and why nothing is.
-use Rattle.std.proofs.Common.{◌≡◌, ◌∙◌, ◌⊎◌, [], ◌∷◌, ℕ, List, Option, Some, false, inl, inr, refl, subst, sym}
+use Rattle.std.proofs.Common.{◌≡◌, ◌∙◌, ◌⊎◌, [], ◌∷◌, ℕ, Bool, List, None, Option, Some, false, true, arith, inl, inr, length, refl, subst, sym}
+use Rattle.std.specs.Borrow.{Bor}
 use Rattle.std.specs.List.{AllZip}
 use Rattle.std.specs.Option.{option_copied}
+use Rattle.std.specs.Prelude.{◌==◌}
+use Rattle.std.proofs.lemmas.Bool.{eqb-true}
 use Rattle.ioa_value.specs.Actions.{Name}
 use Rattle.ioa_lex.specs.declared.refusal.Refusal.{Refusal}
 use Rattle.ioa_lex.specs.declared.refusal.Refusal.TheVariants as refusals
@@ -16,7 +19,9 @@ use Rattle.ioa_serving.specs.declared.failure.Failure.{Failure}
 use Rattle.ioa_serving.specs.Alone.{IsUnrun}
 use Rattle.ioa_serving.specs.Failing.{IsRefusedGiven, IsRefusedNamed}
 use Rattle.ioa_serving.specs.Headline.{Spells, begins_object}
-use Rattle.ioa_serving.specs.SeedRuns.{IsSpecification}
+use Rattle.ioa_request.specs.Pasted.{texts}
+use Rattle.ioa_serving.specs.SeedRuns.{IsSpecification, StandsFor}
+use Rattle.ioa_serving.specs.Subjects.{Subject}
 use Rattle.ioa_serving.specs.Seeds.{IsUnmonitored, monitors_of}
 use Rattle.ioa_serving.specs.Watching.{IsUnwatched, Specifies}
 use Rattle.ioa_serving.proofs.Refused.{declared}
@@ -41,7 +46,21 @@ refused_given text name s r source found well (inr k) = inl (source, inr (inr (i
 
 -- nothing is run
 pub unprogrammed : (holds : Name → List ℕ → Type 0) (lacks : Name → Type 0) (s : Seeds) (text : List ℕ) (e : Failure) → holds s.run.file.now text
-    → IsRefusedGiven text (option_copied s.run.composition) e ⊎ ((monitors_of s ≡ [] → ⊥) × IsUnwatched text (monitors_of s) e)
+    → IsRefusedGiven text (option_copied s.run.composition) e ⊎ (((monitors_of s ≡ []) × (s.invariants ≡ false) → ⊥) × IsUnwatched text (monitors_of s) e)
     → IsUnrun holds lacks s.run e ⊎ IsUnmonitored holds s e
 unprogrammed holds lacks s text e held (inl k) = inl (ungiven holds lacks s.run text e held k)
 unprogrammed holds lacks s text e held (inr k) = inr (k.0, (text, held, k.1))
+
+-- no specification is named
+pub none_named : (xs : List (Bor Name)) → (length xs == 0) ≡ true → texts xs ≡ []
+none_named [] e = refl
+none_named (x ∷ xs) e = let z : length (x ∷ xs) ≡ 0 = eqb-true (length (x ∷ xs)) 0 e in absurd (omega (arith, z))
+
+pub unnamed : (xs : List (Bor Name)) → texts xs ≡ [] → (length xs == 0) ≡ true
+unnamed [] e = refl
+unnamed (x ∷ xs) e = absurd (cc)
+
+-- what is neither asked for specifications nor for invariants
+pub nothing_asked : (x : Subject) (asked : Bool) → asked ≡ false → StandsFor asked x None
+nothing_asked x false e = refl
+nothing_asked x true e = absurd (cc)

@@ -20,6 +20,7 @@ use Rattle.ioa_serving.specs.Alone.{AreTurnsSince, IsRun, told_of, wants_of_run,
 use Rattle.ioa_serving.specs.Compiling.{IsCompiled}
 use Rattle.ioa_serving.specs.Headline.{Declares, IsFileOf, IsReplay, IsLogReplay, IsMonitoring}
 use Rattle.ioa_serving.specs.ListLogs.{IsListLog}
+use Rattle.ioa_serving.specs.LogLogs.{IsLogLog}
 use Rattle.ioa_serving.specs.Pictures.{IsGraphed, IsLogChart}
 use Rattle.ioa_serving.specs.Resuming.{IsResumable}
 use Rattle.ioa_serving.specs.Subjects.{Subject, its_components, its_starts, of_table}
@@ -39,6 +40,11 @@ abbrev pub LogsListsAsSource : Type 0
 LogsListsAsSource = (text object : List ℕ) (name of : Option Name) (bytes : List ℕ) (end : Ending) (before after : Option (List ℕ))
     → IsCompiled text name object → IsListLog object of bytes end before after → IsListLog text name bytes end before after
 
+-- of a log that is written again
+abbrev pub LogsLogsAsSource : Type 0
+LogsLogsAsSource = (text object : List ℕ) (name of : Option Name) (bytes : List ℕ) (end : Ending) (before after : Option (List ℕ))
+    → IsCompiled text name object → IsLogLog object of bytes end before after → IsLogLog text name bytes end before after
+
 -- of the chart of a log, whatever of it is drawn
 abbrev pub ChartsAsSource : Type 0
 ChartsAsSource = (text object : List ℕ) (name of : Option Name) (selection : Selection) (bytes : List ℕ) (end : Ending) (before after : Option (List ℕ))
@@ -51,8 +57,8 @@ GraphsAsSource = (text object : List ℕ) (name of : Option Name) (before after 
 
 -- and of a monitor's answer
 abbrev pub MonitorsAsSource : Type 0
-MonitorsAsSource = (text object : List ℕ) (name of : Option Name) (bytes : List ℕ) (answer : Option Ending) (before after : Option (List ℕ))
-    → IsCompiled text name object → IsMonitoring object of bytes answer before after → IsMonitoring text name bytes answer before after
+MonitorsAsSource = (json : Bool) (text object : List ℕ) (name of : Option Name) (bytes : List ℕ) (answer : Option Ending) (before after : Option (List ℕ))
+    → IsCompiled text name object → IsMonitoring json object of bytes answer before after → IsMonitoring json text name bytes answer before after
 
 -- ---- runs
 

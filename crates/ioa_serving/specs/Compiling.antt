@@ -4,6 +4,7 @@ use Rattle.ioa_value.specs.Actions.{Name}
 use Rattle.ioa_tree.specs.Hosts.{Hosted}
 use Rattle.ioa_compile.specs.Programs.{Prog}
 use Rattle.ioa_object.specs.Objects.{IsObject}
+use Rattle.ioa_object.specs.Spelling.{mark}
 use Rattle.ioa_serving.specs.declared.failure.Failure.{Failure}
 use Rattle.ioa_serving.specs.Checks.{ok_line}
 use Rattle.ioa_serving.specs.Devices.{Change, Failed, Files, Untouched, Wrote}
@@ -35,7 +36,7 @@ IsUncompiled text name Failure.OutOfMemory = Unit {0}
 
 -- the file may hold a source whose object this is, and it was put in the file `out`
 abbrev pub IsSaved : Files → Name → Name → Option Name → Type 0
-IsSaved f file out name = (text object : List ℕ) × f.holds file text × IsCompiled text name object × f.places out object
+IsSaved f file out name = (text object : List ℕ) × f.holds file text × IsCompiled text name object × f.places mark out object
 
 -- and `ok` is written
 abbrev pub IsMade : Files → Name → Name → Option Name → Change → Type 0
@@ -60,5 +61,5 @@ IsUnmade f file out name output (Failure.BadLog i) = ⊥
 IsUnmade f file out name output Failure.EndedByFault = ⊥
 IsUnmade f file out name output (Failure.RunLog e) = ⊥
 IsUnmade f file out name output Failure.Io =
-    (f.lacks file ⊎ (f.blocks out × ((text object : List ℕ) × f.holds file text × IsCompiled text name object))) × f.kept × Untouched output
+    (f.lacks file ⊎ (f.blocks mark out × ((text object : List ℕ) × f.holds file text × IsCompiled text name object))) × f.kept × Untouched output
 IsUnmade f file out name output Failure.OutOfMemory = f.kept × Untouched output

@@ -4,7 +4,7 @@ use Rattle.std.specs.Prelude.{◌≡◌, ℕ, List, Option, None}
 use Rattle.std.specs.Io.KnownBytes.{Appends, Keeps}
 use Rattle.ioa_log.specs.Failing.{HasFailed}
 use Rattle.ioa_value.specs.Actions.{Name}
-use Rattle.ioa_serving.specs.Placing.{Blocks, Places}
+use Rattle.ioa_serving.specs.Placing.{Blocks, Places, Yields}
 
 -- what a device shows
 pub record Seen : Type 0 where
@@ -50,13 +50,14 @@ Wrote c text = Appends c.before.bytes c.after.bytes text
 abbrev pub Untouched : Change → Type 0
 Untouched c = Keeps c.before.bytes c.after.bytes
 
--- what the files are to a call: what a load before it may give, and where it may fail; where an object may not be put; what was put where; whether all files are as they
--- were; and what a load after it may give, and where it may fail
+-- what the files are to a call: what a load before it may give, and where it may fail; where bytes that begin with a mark may not be put, and where what stands
+-- gives way to them; what was put where; whether all files are as they were; and what a load after it may give, and where it may fail
 pub record Files : Type 1 where
   pub holds : Name → List ℕ → Type 0
   pub lacks : Name → Type 0
-  pub blocks : Name → Type 0
-  pub places : Name → List ℕ → Type 0
+  pub blocks : List ℕ → Name → Type 0
+  pub yields : List ℕ → Name → Type 0
+  pub places : List ℕ → Name → List ℕ → Type 0
   pub kept : Type 0
   pub held : Name → List ℕ → Type 0
   pub lacked : Name → Type 0
@@ -66,8 +67,9 @@ abbrev pub files : {F : Type 0} → (F → Name → List ℕ → Type 0) → (F 
 files holds lacks begins bars saves old new = record {
   holds = holds old;
   lacks = lacks old;
-  blocks = Blocks (begins old) (bars old);
-  places = Places (begins old) (saves old new);
+  blocks = λ begun. Blocks begun (begins old) (bars old);
+  yields = λ begun. Yields begun (begins old);
+  places = λ begun. Places begun (begins old) (saves old new);
   kept = new ≡ old;
   held = holds new;
   lacked = lacks new;
@@ -78,8 +80,9 @@ abbrev pub read_only : {F : Type 0} → (F → Name → List ℕ → Type 0) →
 read_only holds lacks store = record {
   holds = holds store;
   lacks = lacks store;
-  blocks = λ _. ⊥;
-  places = λ _ _. ⊥;
+  blocks = λ _ _. ⊥;
+  yields = λ _ _. ⊥;
+  places = λ _ _ _. ⊥;
   kept = Unit {0};
   held = holds store;
   lacked = lacks store;
@@ -90,8 +93,9 @@ abbrev pub no_files : Files
 no_files = record {
   holds = λ _ _. ⊥;
   lacks = λ _. ⊥;
-  blocks = λ _. ⊥;
-  places = λ _ _. ⊥;
+  blocks = λ _ _. ⊥;
+  yields = λ _ _. ⊥;
+  places = λ _ _ _. ⊥;
   kept = Unit {0};
   held = λ _ _. ⊥;
   lacked = λ _. ⊥;

@@ -1,5 +1,5 @@
 -- Why a replay or a monitor in a source or an object does not come to an end, from the bytes of the file and of standard input.
-use Rattle.std.specs.Prelude.{◌≡◌, ◌≢◌, ℕ, ◌⊎◌, IsTrue, true, false, List, Option, Some, None, IfSome}
+use Rattle.std.specs.Prelude.{◌≡◌, ◌≢◌, ℕ, ◌⊎◌, IsTrue, Bool, true, false, List, Option, Some, None, IfSome}
 use Rattle.std.specs.Io.KnownBytes.{Keeps}
 use Rattle.ioa_value.specs.Actions.{Name}
 use Rattle.ioa_value.specs.Lists as lists
@@ -195,8 +195,8 @@ BeginsStatesOf text name bytes before after = (h : Hosted) × IsFileOf text name
 abbrev pub BeginsLogStatesOf : List ℕ → Option Name → Option (List ℕ) → Option (List ℕ) → Option (List ℕ) → Type 0
 BeginsLogStatesOf text name bytes before after = (h : Hosted) × IsFileOf text name (of_hosts h) × IfSome bytes (λ xs. BeginsLogStates h xs before after)
 
-abbrev pub BeginsMonitorOf : List ℕ → Option Name → Option (List ℕ) → Option (List ℕ) → Option (List ℕ) → Type 0
-BeginsMonitorOf text name bytes before after = Given text name bytes (λ s xs. BeginsMonitor s xs before after)
+abbrev pub BeginsMonitorOf : Bool → List ℕ → Option Name → Option (List ℕ) → Option (List ℕ) → Option (List ℕ) → Type 0
+BeginsMonitorOf json text name bytes before after = Given text name bytes (λ s xs. BeginsMonitor json s xs before after)
 
 -- what is left where a device failed, and what after every other failure
 abbrev pub IsLeft : Type 0 → Type 0 → Failure → Type 0

@@ -71,6 +71,6 @@ abbrev pub IsLogStatesReplay : List ℕ → Option Name → List ℕ → Ending 
 IsLogStatesReplay text name bytes ending before after = (h : Hosted) × IsFileOf text name (of_hosts h) × ReplaysLogStates h bytes ending before after
 
 -- The bytes are a log, of this or of another run, and what is written is whether the hosts or the program accept what it tells to be
--- performed: the first action that they have and do not perform, if there is one.
-abbrev pub IsMonitoring : List ℕ → Option Name → List ℕ → Option Ending → Option (List ℕ) → Option (List ℕ) → Type 0
-IsMonitoring text name bytes answer before after = (s : Subject) × IsFileOf text name s × Monitors s bytes answer before after
+-- performed: the first action that they have and do not perform, if there is one; as an object, or not.
+abbrev pub IsMonitoring : Bool → List ℕ → Option Name → List ℕ → Option Ending → Option (List ℕ) → Option (List ℕ) → Type 0
+IsMonitoring json text name bytes answer before after = (s : Subject) × IsFileOf text name s × Monitors json s bytes answer before after

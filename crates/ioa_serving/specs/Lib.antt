@@ -1,8 +1,10 @@
 pub mod Alone
+pub mod AtHand
 pub mod Carried
 pub mod Checks
 pub mod Compiling
 pub mod Counting
+pub mod Cuts
 pub mod Delivering
 pub mod Devices
 pub mod Dumps
@@ -12,9 +14,12 @@ pub mod FailureCodes
 pub mod Grouping
 pub mod HasRun
 pub mod Headline
+pub mod Json
 pub mod Libraries
 pub mod Links
 pub mod ListLogs
+pub mod LogCounts
+pub mod LogLogs
 pub mod Logs
 pub mod Pacing
 pub mod Pictures
@@ -29,6 +34,7 @@ pub mod Serving
 pub mod States
 pub mod Statuses
 pub mod Streams
+pub mod Strict
 pub mod Subjects
 pub mod Traces
 pub mod Watching

@@ -1,5 +1,5 @@
 -- What a replay of a log writes, also where it is asked for invariants, and what a monitor of one.
-use Rattle.std.specs.Prelude.{◌≡◌, ℕ, ◌++◌, ◌∷◌, [], List, take, codes, Option, Some, None}
+use Rattle.std.specs.Prelude.{◌≡◌, ℕ, ◌++◌, ◌∷◌, [], Bool, true, false, List, take, codes, Option, Some, None}
 use Rattle.std.specs.Fmt.{decimal}
 use Rattle.std.specs.Io.KnownBytes.{Appends}
 use Rattle.std.specs.Option.{option_map_or}
@@ -16,6 +16,7 @@ use Rattle.ioa_log.specs.LogTexts.{ReadsLog}
 use Rattle.ioa_log.specs.Monitoring.{monitored}
 use Rattle.ioa_log.specs.Replays.{run_text}
 use Rattle.ioa_serving.specs.declared.invariant_replay.Finding.{Finding}
+use Rattle.ioa_serving.specs.Json.{answer_json, verdict_line}
 use Rattle.ioa_serving.specs.Subjects.{Subject, of_hosts, IsOpen, its_types, its_hidden, its_components, its_starts}
 
 -- the bytes are a text of this log, and it is of the run that the subject does
@@ -48,10 +49,11 @@ abbrev pub found_in : Hosted → Logged → Found
 found_in h log =
     option_map_or broken (first_broken_host h (actions_of log)) (unbroken (run (hosts_of h) (actions_of log) (host_starts h)).ending)
 
+abbrev pub broken_words : Broken → List ℕ
+broken_words b = codes "invariant " ++ (decimal b.invariant ++ (codes " of component " ++ (decimal b.component ++ (codes " broken after " ++ decimal b.state))))
+
 abbrev pub broken_line : Broken → List ℕ
-broken_line b =
-    codes "invariant " ++ (decimal b.invariant
-    ++ (codes " of component " ++ (decimal b.component ++ (codes " broken after " ++ (decimal b.state ++ 10 ∷ [])))))
+broken_line b = broken_words b ++ 10 ∷ []
 
 -- the broken invariant alone; where none is, the run's text
 abbrev pub found_text : Hosted → Logged → Found → List ℕ
@@ -81,16 +83,18 @@ abbrev pub answer_text : Option Ending → List ℕ
 answer_text None = codes "ok"
 answer_text (Some end) = ending_text end
 
-abbrev pub answer_line : Option Ending → List ℕ
-answer_line answer = codes "monitor: " ++ (answer_text answer ++ 10 ∷ [])
+-- told as an object, or not
+abbrev pub answer_line : Bool → Option Ending → List ℕ
+answer_line true answer = verdict_line (answer_json answer)
+answer_line false answer = codes "monitor: " ++ (answer_text answer ++ 10 ∷ [])
 
 -- all is seen, the bytes are a text of a log, and the answer to it is written
-abbrev pub Monitors : Subject → List ℕ → Option Ending → Option (List ℕ) → Option (List ℕ) → Type 0
-Monitors s bytes answer before after =
-    IsOpen s × ((log : Logged) × ReadsLog (its_types s) bytes log × (answer ≡ answer_to s log) × Appends before after (answer_line answer))
+abbrev pub Monitors : Bool → Subject → List ℕ → Option Ending → Option (List ℕ) → Option (List ℕ) → Type 0
+Monitors json s bytes answer before after =
+    IsOpen s × ((log : Logged) × ReadsLog (its_types s) bytes log × (answer ≡ answer_to s log) × Appends before after (answer_line json answer))
 
 -- a beginning of it is written
-abbrev pub BeginsMonitor : Subject → List ℕ → Option (List ℕ) → Option (List ℕ) → Type 0
-BeginsMonitor s bytes before after =
+abbrev pub BeginsMonitor : Bool → Subject → List ℕ → Option (List ℕ) → Option (List ℕ) → Type 0
+BeginsMonitor json s bytes before after =
     IsOpen s
-    × ((log : Logged) × ReadsLog (its_types s) bytes log × ((k : ℕ) × Appends before after (take k (answer_line (answer_to s log)))))
+    × ((log : Logged) × ReadsLog (its_types s) bytes log × ((k : ℕ) × Appends before after (take k (answer_line json (answer_to s log)))))

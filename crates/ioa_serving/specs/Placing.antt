@@ -1,18 +1,25 @@
--- When an object may be put in a file.
-use Rattle.std.specs.Prelude.{◌≡◌, ◌⊎◌, ◌++◌, List, [], Option, Some, None, ℕ}
+-- When bytes may be put in a file: by what stands there, and by how they begin.
+use Rattle.std.specs.Prelude.{◌≡◌, ◌⊎◌, ◌++◌, List, [], Option, Some, None, codes, ℕ}
 use Rattle.ioa_value.specs.Actions.{Name}
-use Rattle.ioa_object.specs.Spelling.{mark}
 
--- What stands in the place of an object that is to be written gives way to it: no file that can be read, or an empty one, or one that begins as
--- an object does. Of a file its beginning is told.
-abbrev pub GivesWay : Option (List ℕ) → Type 0
-GivesWay None = Unit {0}
-GivesWay (Some found) = (found ≡ []) ⊎ ((rest : List ℕ) × (found ≡ mark ++ rest))
+-- What stands in the place of bytes that are to be written gives way to them: no file that can be read, or an empty one, or one that begins with this mark, as
+-- they do. Of a file its beginning is told.
+abbrev pub GivesWay : List ℕ → Option (List ℕ) → Type 0
+GivesWay begun None = Unit {0}
+GivesWay begun (Some found) = (found ≡ []) ⊎ ((rest : List ℕ) × (found ≡ begun ++ rest))
+
+-- how each log begins
+abbrev pub log_mark : List ℕ
+log_mark = codes "{\""
+
+-- what may stand in the file gives way
+abbrev pub Yields : List ℕ → (Name → Option (List ℕ) → Type 0) → Name → Type 0
+Yields begun begins out = (found : Option (List ℕ)) × begins out found × GivesWay begun found
 
 -- the bytes were put in the file, where what stood there gave way
-abbrev pub Places : (Name → Option (List ℕ) → Type 0) → (Name → List ℕ → Type 0) → Name → List ℕ → Type 0
-Places begins saves out object = ((found : Option (List ℕ)) × begins out found × GivesWay found) × saves out object
+abbrev pub Places : List ℕ → (Name → Option (List ℕ) → Type 0) → (Name → List ℕ → Type 0) → Name → List ℕ → Type 0
+Places begun begins saves out bytes = Yields begun begins out × saves out bytes
 
 -- the file may not be written, or there may stand what does not give way
-abbrev pub Blocks : (Name → Option (List ℕ) → Type 0) → (Name → Type 0) → Name → Type 0
-Blocks begins bars out = bars out ⊎ ((found : Option (List ℕ)) × begins out found × (GivesWay found → ⊥))
+abbrev pub Blocks : List ℕ → (Name → Option (List ℕ) → Type 0) → (Name → Type 0) → Name → Type 0
+Blocks begun begins bars out = bars out ⊎ ((found : Option (List ℕ)) × begins out found × (GivesWay begun found → ⊥))

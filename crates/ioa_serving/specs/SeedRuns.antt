@@ -1,16 +1,21 @@
 -- Runs of a program by many seeds, and what programs answer to them, before they are told of what they run as.
-use Rattle.std.specs.Prelude.{◌≡◌, ◌≢◌, ◌≤◌, ◌^◌, ◌⊎◌, ◌∷◌, ℕ, suc, All, false, List, [], Err, Ok, Option, Some, length, map}
+use Rattle.std.specs.Prelude.{◌≡◌, ◌≢◌, ◌≤◌, ◌^◌, ◌⊎◌, ◌∷◌, ℕ, suc, All, false, List, [], Bool, true, Err, Ok, None, Option, Some, length, map}
 use Rattle.std.specs.Io.KnownBytes.{Appends, Keeps}
 use Rattle.std.specs.List.{AllZip}
 use Rattle.std.specs.Option.{option_copied, option_map}
 use Rattle.rand_chacha.specs.ChaCha.{ChaCha}
 use Rattle.ioa_value.specs.Actions.{Act, Name, act_of}
 use Rattle.ioa_tree.specs.Hosts.{Hosted}
+use Rattle.ioa_tree.specs.Invariants.{Broken, first_broken}
 use Rattle.ioa_tree.specs.Runs.{Ending}
+use Rattle.ioa_compose.specs.declared.composition.Composition.{Composition}
+use Rattle.ioa_compose.specs.Held.{composed_of}
+use Rattle.ioa_compose.specs.Simulates.{Simulates}
 use Rattle.ioa_compile.specs.Programs.{Prog}
 use Rattle.ioa_compile.specs.Tables.{start_states, tabled}
-use Rattle.ioa_system.specs.Logs.{Logged, log_end, log_entry, logged}
+use Rattle.ioa_system.specs.Logs.{Logged, actions_of, log_end, log_entry, logged}
 use Rattle.ioa_system.specs.Outcomes.{ending_of}
+use Rattle.ioa_log.specs.Breaking.{broken_of}
 use Rattle.ioa_log.specs.Monitoring.{IsSeen, hides, monitored}
 use Rattle.ioa_run.specs.declared.outcome.Outcome.{Outcome}
 use Rattle.ioa_run.specs.declared.run_err.RunErr.{RunErr}
@@ -22,21 +27,29 @@ use Rattle.ioa_request.specs.declared.seeds.Seeds.{Seeds}
 use Rattle.ioa_serving.specs.declared.failure.Failure.{Failure}
 use Rattle.ioa_serving.specs.declared.judged.JudgedRun.{JudgedRun}
 use Rattle.ioa_serving.specs.declared.seed_counts.Counts.{Counts}
+use Rattle.ioa_serving.specs.declared.seed_tally.Tally.{Tally}
 use Rattle.ioa_serving.specs.declared.sown.Sown.{Sown}
 use Rattle.ioa_serving.specs.HasRun.{HasReady}
 use Rattle.ioa_serving.specs.Headline.{IsFileOf}
 use Rattle.ioa_serving.specs.Logs.{performed_in}
 use Rattle.ioa_serving.specs.Running.{Runs}
-use Rattle.ioa_serving.specs.Seeds.{IsSeedsCut, Judged, dones_among, faults_among, monitors_of, refusals_among, seed_lines, seeds_count}
+use Rattle.ioa_serving.specs.Seeds.{IsSeedsCut, IsShortest, Judged, broken_among, dones_among, faults_among, monitors_of, refusals_among, seeds_count}
 use Rattle.ioa_serving.specs.Serving.{run_failure}
 use Rattle.ioa_serving.specs.Streams.{AreStreams}
-use Rattle.ioa_serving.specs.Subjects.{of_hosts}
+use Rattle.ioa_serving.specs.Subjects.{Subject, of_hosts, of_table}
 
 -- ---- what is read
 
 -- the text is a source, all is seen that the hosts do of its composition of this name, and the program does what they do
 abbrev pub IsSpecification : List ℕ → Name → Prog → Type 0
 IsSpecification text name p = (h : Hosted) × IsFileOf text (Some name) (of_hosts h) × IsSeen h × Runs p h
+
+-- where invariants are asked for, the composition stands for the hosts
+abbrev pub StandsFor : Bool → Subject → Option Composition → Type 0
+StandsFor false x c = c ≡ None
+StandsFor true (of_hosts h) (Some c) = Simulates h (composed_of c)
+StandsFor true (of_hosts h) None = ⊥
+StandsFor true (of_table p) c = ⊥
 
 -- all was read, of a file that may hold this text, which has the specifications
 pub record HasSown (holds : Name → List ℕ → Type 0) (s : Seeds) (w : Sown) : Type 0 where
@@ -45,6 +58,7 @@ pub record HasSown (holds : Name → List ℕ → Type 0) (s : Seeds) (w : Sown)
   pub ready : HasReady holds s.run w.ready
   pub gives : IsFileOf text (option_copied s.run.composition) ready.subject
   pub specified : AllZip (IsSpecification text) (monitors_of s) w.specifications.items
+  pub stands : StandsFor s.invariants ready.subject w.composition
 
 -- ---- one run
 
@@ -52,9 +66,14 @@ pub record HasSown (holds : Name → List ℕ → Type 0) (s : Seeds) (w : Sown)
 abbrev pub table_answer : Logged → Prog → Option Ending
 table_answer log p = monitored (tabled p) (performed_in log) (start_states p)
 
+-- the first invariant that the composition breaks in a state of the log's run, where there is a composition
+abbrev pub broken_in : Option Composition → Logged → Option (Option Broken)
+broken_in None log = None
+broken_in (Some c) log = Some (first_broken (composed_of c) (actions_of log))
+
 -- a run that is judged, as plain data
 abbrev pub judged_of : JudgedRun → Judged
-judged_of j = record { log = logged j.log; answers = map (option_map ending_of) j.answers.items }
+judged_of j = record { log = logged j.log; answers = map (option_map ending_of) j.answers.items; inspected = option_map (option_map broken_of) j.inspected }
 
 -- a run of the program by the seed of this number, on one thread, has this log
 pub record IsSeedRun (p : Prog) (before : Logged) (script : List Act) (turns n : ℕ) (log : Logged) : Type 0 where
@@ -72,6 +91,7 @@ pub record IsSeedRun (p : Prog) (before : Logged) (script : List Act) (turns n :
 pub record IsSeedJudgment (w : Sown) (turns n : ℕ) (j : Judged) : Type 0 where
   pub run : IsSeedRun w.ready.program (logged w.ready.log) (map act_of w.ready.script.items) turns n j.log
   pub answers : j.answers ≡ map (table_answer j.log) w.specifications.items
+  pub inspected : j.inspected ≡ broken_in w.composition j.log
 
 abbrev pub AreSeedJudgments : Sown → ℕ → ℕ → List Judged → Type 0
 AreSeedJudgments w turns n [] = Unit {0}
@@ -84,19 +104,24 @@ IsSeedRefused w turns e =
 
 -- ---- all runs
 
--- so many runs did not end by a fault, so many did, and so many each of the specifications does not accept
+-- so many runs did not end by a fault, so many did, so many each of the specifications does not accept, and so many break an invariant
 pub record IsCountOf (specifications : ℕ) (c : Counts) (js : List Judged) : Type 0 where
   pub done : c.done ≡ dones_among js
   pub fault : c.fault ≡ faults_among js
   pub refusals : c.refusals.items ≡ refusals_among specifications js
+  pub broken : c.broken ≡ broken_among js
 
--- all runs from the first to the last number, which has 64 bits, are told, and counted
-pub record IsTold (w : Sown) (s : Seeds) (old new : Option (List ℕ)) (c : Counts) (js : List Judged) : Type 0 where
+-- and of those that are refused this is the shortest log
+abbrev pub IsTallyOf : ℕ → Tally → List Judged → Type 0
+IsTallyOf specifications t js = IsCountOf specifications t.counts js × IsShortest js (option_map logged t.shortest)
+
+-- all runs from the first to the last number, which has 64 bits, are counted, and this text of them is written
+pub record IsTold (w : Sown) (s : Seeds) (text : List ℕ) (old new : Option (List ℕ)) (t : Tally) (js : List Judged) : Type 0 where
   pub count : length js ≡ seeds_count s
   pub runs : AreSeedJudgments w s.run.turns s.first js
-  pub counted : IsCountOf (length w.specifications.items) c js
+  pub tallied : IsTallyOf (length w.specifications.items) t js
   pub within : length js ≤ 2 ^ 64
-  pub output : Appends old new (seed_lines (monitors_of s) s.first js)
+  pub output : Appends old new text
 
 -- or the first ones, and then the device failed, or memory was short
 pub record IsBegun (w : Sown) (s : Seeds) (failed : Type 0) (old new : Option (List ℕ)) (e : Failure) : Type 0 where

@@ -1,16 +1,19 @@
--- Runs by many seeds: a line for each with its end, and with what each specification answers to it that is asked; how many ended so, and how many each
--- specification does not accept; and why they are not all told.
-use Rattle.std.specs.Prelude.{◌≡◌, ◌≤◌, ◌⊎◌, ◌+◌, ◌-◌, ◌++◌, ◌∷◌, ◌==◌, not, ℕ, suc, true, List, [], Option, Some, codes, flat_map, if◌then◌else◌, is_some, length, replicate, take}
+-- Runs by many seeds: a line for each with its end, with what each specification answers to it that is asked, and with the invariant that it breaks; how many ended
+-- so, how many each specification does not accept, and how many break an invariant; which log is kept; and why they are not all told.
+use Rattle.std.specs.Prelude.{◌≡◌, ◌≤◌, ◌<◌, ◌⊎◌, ◌+◌, ◌-◌, ◌++◌, ◌∷◌, ◌==◌, ◌||◌, not, ℕ, suc, All, Bool, false, true, IfSome, List, [], None, Option, Some, codes, flat_map, if◌then◌else◌, is_some, length, replicate, take}
 use Rattle.std.specs.Fmt.{decimal}
 use Rattle.std.specs.Io.KnownBytes.{Appends, Keeps}
 use Rattle.std.specs.List.{AllZip, count_by, list_any, zip}
-use Rattle.std.specs.Option.{option_copied}
+use Rattle.std.specs.Option.{option_copied, option_map_or}
 use Rattle.ioa_value.specs.Actions.{Act, Name}
-use Rattle.ioa_tree.specs.Hosts.{Hosted}
+use Rattle.ioa_value.specs.Table.{Table}
+use Rattle.ioa_tree.specs.Hosts.{Hosted, first_broken_host}
+use Rattle.ioa_tree.specs.Invariants.{Broken}
 use Rattle.ioa_tree.specs.Runs.{Ending}
 use Rattle.ioa_system.specs.Endings.{ending_text}
-use Rattle.ioa_system.specs.Logs.{Logged, is_fault}
+use Rattle.ioa_system.specs.Logs.{Logged, actions_of, is_fault}
 use Rattle.ioa_log.specs.declared.failure.LogErr.{LogErr}
+use Rattle.ioa_log.specs.LogTexts.{log_text}
 use Rattle.ioa_log.specs.Monitoring.{IsSeen}
 use Rattle.ioa_run.specs.declared.report.Report.{Report}
 use Rattle.ioa_run.specs.Alone.{NoMemory}
@@ -22,17 +25,20 @@ use Rattle.ioa_request.specs.declared.settings.WordsFrom.{WordsFrom}
 use Rattle.ioa_serving.specs.declared.failure.Failure.{Failure}
 use Rattle.ioa_serving.specs.declared.status.Status.{Status}
 use Rattle.ioa_serving.specs.Alone.{CameOf, IsUnrun}
+use Rattle.ioa_serving.specs.Devices.{Files}
 use Rattle.ioa_serving.specs.Headline.{IsFileOf}
-use Rattle.ioa_serving.specs.Logs.{answer_text, answer_to}
-use Rattle.ioa_serving.specs.Subjects.{Subject, of_hosts}
+use Rattle.ioa_serving.specs.Logs.{answer_text, answer_to, broken_words}
+use Rattle.ioa_serving.specs.Placing.{log_mark}
+use Rattle.ioa_serving.specs.Subjects.{Subject, its_types, of_hosts, of_table}
 use Rattle.ioa_serving.specs.Watching.{IsUnwatched}
 
 -- ---- what is written
 
--- the log of a run, and what each specification answers to it
+-- the log of a run, what each specification answers to it, and the first invariant that its states break, if any, where they are asked for
 pub record Judged : Type 0 where
   pub log : Logged
   pub answers : List (Option Ending)
+  pub inspected : Option (Option Broken)
 
 -- behind an end, the name of a specification and its answer
 abbrev pub answer_behind : Name × Option Ending → List ℕ
@@ -41,9 +47,16 @@ answer_behind p = codes "; " ++ (p.0 ++ (codes ": " ++ answer_text p.1))
 abbrev pub answers_behind : List Name → List (Option Ending) → List ℕ
 answers_behind names answers = flat_map answer_behind (zip names answers)
 
--- a line with the digits of the seed of this number, to be pasted behind `--seed`, the end of its run, and the answers of these specifications
+-- behind that, where invariants are asked for, that none is broken, or the first that is
+abbrev pub inspected_behind : Option (Option Broken) → List ℕ
+inspected_behind None = []
+inspected_behind (Some None) = codes "; invariants: ok"
+inspected_behind (Some (Some b)) = codes "; " ++ broken_words b
+
+-- a line with the digits of the seed of this number, to be pasted behind `--seed`, the end of its run, the answers of these specifications, and the invariant
 abbrev pub seed_line : List Name → ℕ → Judged → List ℕ
-seed_line names n j = numbered_digits n ++ (codes " end: " ++ (ending_text j.log.ending ++ (answers_behind names j.answers ++ 10 ∷ [])))
+seed_line names n j =
+    numbered_digits n ++ (codes " end: " ++ (ending_text j.log.ending ++ (answers_behind names j.answers ++ (inspected_behind j.inspected ++ 10 ∷ []))))
 
 -- of runs by seeds with numbers in a row, from this one on
 abbrev pub seed_lines : List Name → ℕ → List Judged → List ℕ
@@ -56,6 +69,13 @@ faults_among js = count_by (λ j. is_fault j.log.ending) js
 
 abbrev pub dones_among : List Judged → ℕ
 dones_among js = count_by (λ j. not (is_fault j.log.ending)) js
+
+-- how many break an invariant
+abbrev pub is_broken : Judged → Bool
+is_broken j = option_map_or is_some j.inspected false
+
+abbrev pub broken_among : List Judged → ℕ
+broken_among js = count_by is_broken js
 
 -- for each specification a count, which is one more where it does not accept the run
 abbrev pub with_refusals : List ℕ → List (Option Ending) → List ℕ
@@ -75,23 +95,27 @@ refusals_among specifications js = refusals_from (replicate specifications 0) js
 abbrev pub refusals_behind : Name × ℕ → List ℕ
 refusals_behind p = codes "; " ++ (p.0 ++ (codes ": not accepted " ++ decimal p.1))
 
+-- and how many break an invariant, where these are asked for
+abbrev pub broken_behind : Bool → ℕ → List ℕ
+broken_behind asked n = if asked then codes "; invariants: broken " ++ decimal n else []
+
 -- a line with these counts
-abbrev pub counts_line : List Name → ℕ → ℕ → List ℕ → List ℕ
-counts_line names dones faults refusals =
+abbrev pub counts_line : List Name → Bool → ℕ → ℕ → List ℕ → ℕ → List ℕ
+counts_line names asked dones faults refusals broken =
     codes "seeds " ++ (decimal (dones + faults) ++ (codes "; done " ++ (decimal dones ++ (codes "; fault " ++ (decimal faults
-    ++ (flat_map refusals_behind (zip names refusals) ++ 10 ∷ []))))))
+    ++ (flat_map refusals_behind (zip names refusals) ++ (broken_behind asked broken ++ 10 ∷ [])))))))
 
 -- all of it
-abbrev pub seeds_text : List Name → ℕ → List Judged → List ℕ
-seeds_text names n js = seed_lines names n js ++ counts_line names (dones_among js) (faults_among js) (refusals_among (length names) js)
+abbrev pub seeds_text : List Name → Bool → ℕ → List Judged → List ℕ
+seeds_text names asked n js = seed_lines names n js ++ counts_line names asked (dones_among js) (faults_among js) (refusals_among (length names) js) (broken_among js)
 
--- that of a run that is not accepted, or else of one that ended by a fault; where there is neither, all is done
-abbrev pub counts_status : ℕ → List ℕ → Status
-counts_status faults refusals =
-    if list_any (λ n. not (n == 0)) refusals then Status.NotAccepted else if faults == 0 then Status.Done else Status.Faulted
+-- that of a run that is not accepted, or breaks an invariant, or else of one that ended by a fault; where there is neither, all is done
+abbrev pub counts_status : ℕ → List ℕ → ℕ → Status
+counts_status faults refusals broken =
+    if list_any (λ n. not (n == 0)) refusals || not (broken == 0) then Status.NotAccepted else if faults == 0 then Status.Done else Status.Faulted
 
 abbrev pub seeds_status : List Name → List Judged → Status
-seeds_status names js = counts_status (faults_among js) (refusals_among (length names) js)
+seeds_status names js = counts_status (faults_among js) (refusals_among (length names) js) (broken_among js)
 
 -- ---- what is run
 
@@ -111,38 +135,88 @@ with_seed s n = record s { alone = true; words = WordsFrom.Key (numbered_key n) 
 abbrev pub IsAnswerOf : List ℕ → Logged → Name → Option Ending → Type 0
 IsAnswerOf text log name answer = (h : Hosted) × IsFileOf text (Some name) (of_hosts h) × IsSeen h × (answer ≡ answer_to (of_hosts h) log)
 
--- that log is of the single run with this seed, memory was refused to none of its workers, and the answers are those of these specifications
-pub record IsSeedJudged (holds : Name → List ℕ → Type 0) (s : Settings) (x : Subject) (text : List ℕ) (names : List Name) (script : List Act) (n : ℕ) (j : Judged) : Type 0 where
+-- where invariants are asked for, this is the first that the hosts break in a state of the log's run, as what is found in a replay of the log
+abbrev pub IsInspected : Bool → Subject → Logged → Option (Option Broken) → Type 0
+IsInspected false x log inspected = inspected ≡ None
+IsInspected true (of_hosts h) log inspected = inspected ≡ Some (first_broken_host h (actions_of log))
+IsInspected true (of_table p) log inspected = ⊥
+
+-- that log is of the single run with this seed, memory was refused to none of its workers, the answers are those of these specifications, and so it is with
+-- invariants
+pub record IsSeedJudged (holds : Name → List ℕ → Type 0) (s : Settings) (x : Subject) (text : List ℕ) (names : List Name) (asked : Bool) (script : List Act) (n : ℕ) (j : Judged) : Type 0 where
   pub reports : List Report
   pub came : CameOf holds (with_seed s n) x j.log reports
   pub same_script : came.script ≡ script
   pub memory : NoMemory reports
   pub answers : AllZip (IsAnswerOf text j.log) names j.answers
+  pub inspected : IsInspected asked x j.log j.inspected
 
 -- so it is of the runs by seeds with numbers in a row, from this one on
-abbrev pub AreSeedsJudged : (Name → List ℕ → Type 0) → Settings → Subject → List ℕ → List Name → List Act → ℕ → List Judged → Type 0
-AreSeedsJudged holds s x text names script n [] = Unit {0}
-AreSeedsJudged holds s x text names script n (j ∷ js) = IsSeedJudged holds s x text names script n j × AreSeedsJudged holds s x text names script (suc n) js
+abbrev pub AreSeedsJudged : (Name → List ℕ → Type 0) → Settings → Subject → List ℕ → List Name → Bool → List Act → ℕ → List Judged → Type 0
+AreSeedsJudged holds s x text names asked script n [] = Unit {0}
+AreSeedsJudged holds s x text names asked script n (j ∷ js) =
+    IsSeedJudged holds s x text names asked script n j × AreSeedsJudged holds s x text names asked script (suc n) js
+
+-- ---- what is kept
+
+-- one of the specifications does not accept the run, or it breaks an invariant
+abbrev pub is_refused : Judged → Bool
+is_refused j = list_any is_some j.answers || is_broken j
+
+-- of the runs that are refused the log of this one has the fewest entries, and of those that have as few it is the first
+pub record IsShortestRefused (js : List Judged) (log : Logged) : Type 0 where
+  pub before : List Judged
+  pub judged : Judged
+  pub after : List Judged
+  pub order : js ≡ before ++ judged ∷ after
+  pub is_log : log ≡ judged.log
+  pub refused : is_refused judged ≡ true
+  pub first : All (λ j. is_refused j ≡ true → length log.entries < length j.log.entries) before
+  pub least : All (λ j. is_refused j ≡ true → length log.entries ≤ length j.log.entries) after
+
+-- or none is refused
+abbrev pub IsShortest : List Judged → Option Logged → Type 0
+IsShortest js None = All (λ j. is_refused j ≡ false) js
+IsShortest js (Some log) = IsShortestRefused js log
+
+-- such a log is put in the file that is named, as it is written; where there is none, or no file is named, no file is changed
+abbrev pub IsKeptIn : Files → Table → Option Name → Option Logged → Type 0
+IsKeptIn f types None shortest = f.kept
+IsKeptIn f types (Some out) None = f.kept
+IsKeptIn f types (Some out) (Some log) = f.places log_mark out (log_text types log)
+
+-- it is not put there: the file may not be written, or there may stand what does not give way to a log; or memory is short
+abbrev pub IsUnkeepable : (Name → Type 0) → Option Name → Failure → Type 0
+IsUnkeepable blocks None e = ⊥
+IsUnkeepable blocks (Some out) e = ((e ≡ Failure.Io) × blocks out) ⊎ (e ≡ Failure.OutOfMemory)
 
 -- ---- what comes of it
 
--- each of the runs is told, in their order, and then how many ended so
-pub record IsSeedsServed (holds : Name → List ℕ → Type 0) (s : Seeds) (before after : Option (List ℕ)) (done : Status) : Type 0 where
+-- what the file may hold is run by seeds with numbers in a row, from the first one on; and what may stand where a log is to be kept gives way to one
+pub record AreSown (f : Files) (s : Seeds) (js : List Judged) : Type 0 where
   pub text : List ℕ
-  pub held : holds s.run.file.now text
+  pub held : f.holds s.run.file.now text
   pub subject : Subject
   pub gives : IsFileOf text (option_copied s.run.composition) subject
   pub script : List Act
+  pub runs : AreSeedsJudged f.holds s.run subject text (monitors_of s) s.invariants script s.first js
+  pub yields : IfSome (option_copied s.keep) (f.yields log_mark)
+
+-- each of the runs is told, in their order, and then how many ended so; and a log is kept
+pub record IsSeedsServed (f : Files) (s : Seeds) (before after : Option (List ℕ)) (done : Status) : Type 0 where
   pub judged : List Judged
   pub count : length judged ≡ seeds_count s
-  pub runs : AreSeedsJudged holds s.run subject text (monitors_of s) script s.first judged
-  pub output : Appends before after (seeds_text (monitors_of s) s.first judged)
+  pub sown : AreSown f s judged
+  pub output : Appends before after (seeds_text (monitors_of s) s.invariants s.first judged)
+  pub shortest : Option Logged
+  pub is_shortest : IsShortest judged shortest
+  pub keeps : IsKeptIn f (its_types sown.subject) (option_copied s.keep) shortest
   pub status : done ≡ seeds_status (monitors_of s) judged
 
 -- the lines of these runs; or, where they are all that there are, with their counts
 abbrev pub IsSeedsText : Seeds → List Judged → List ℕ → Type 0
 IsSeedsText s js text =
-    (text ≡ seed_lines (monitors_of s) s.first js) ⊎ ((length js ≡ seeds_count s) × (text ≡ seeds_text (monitors_of s) s.first js))
+    (text ≡ seed_lines (monitors_of s) s.first js) ⊎ ((length js ≡ seeds_count s) × (text ≡ seeds_text (monitors_of s) s.invariants s.first js))
 
 -- why they are not all told: the device failed, which has taken a beginning of their lines; or memory was short behind them, or refused to a worker
 -- of the next run
@@ -152,22 +226,31 @@ IsSeedsCut s js failed before after e =
     ⊎ (((e ≡ Failure.List LogErr.OutOfMemory) ⊎ (e ≡ Failure.OutOfMemory)) × Appends before after (seed_lines (monitors_of s) s.first js))
 
 -- the first runs are told, or some of them
-pub record AreSeedsCut (holds : Name → List ℕ → Type 0) (s : Seeds) (failed : Type 0) (before after : Option (List ℕ)) (e : Failure) : Type 0 where
-  pub text : List ℕ
-  pub held : holds s.run.file.now text
-  pub subject : Subject
-  pub gives : IsFileOf text (option_copied s.run.composition) subject
-  pub script : List Act
+pub record AreSeedsCut (f : Files) (s : Seeds) (failed : Type 0) (before after : Option (List ℕ)) (e : Failure) : Type 0 where
   pub judged : List Judged
   pub few : length judged ≤ seeds_count s
-  pub runs : AreSeedsJudged holds s.run subject text (monitors_of s) script s.first judged
+  pub sown : AreSown f s judged
   pub cut : IsSeedsCut s judged failed before after e
 
--- specifications are asked, and the file may hold an object; or a source that is refused, or of which one of the names is no specification's
-abbrev pub IsUnmonitored : (Name → List ℕ → Type 0) → Seeds → Failure → Type 0
-IsUnmonitored holds s e = (monitors_of s ≡ [] → ⊥) × ((text : List ℕ) × holds s.run.file.now text × IsUnwatched text (monitors_of s) e)
+-- all is told, and there is a log to be kept, which is not put in its file
+pub record IsUnkept (f : Files) (s : Seeds) (before after : Option (List ℕ)) (e : Failure) : Type 0 where
+  pub judged : List Judged
+  pub count : length judged ≡ seeds_count s
+  pub sown : AreSown f s judged
+  pub output : Appends before after (seeds_text (monitors_of s) s.invariants s.first judged)
+  pub shortest : Logged
+  pub is_shortest : IsShortestRefused judged shortest
+  pub unkeepable : IsUnkeepable (f.blocks log_mark) (option_copied s.keep) e
 
--- nothing was run, and nothing is written; or not all is told
-abbrev pub IsSeedsUnserved : (Name → List ℕ → Type 0) → (Name → Type 0) → Seeds → Type 0 → Option (List ℕ) → Option (List ℕ) → Failure → Type 0
-IsSeedsUnserved holds lacks s failed before after e =
-    ((IsUnrun holds lacks s.run e ⊎ IsUnmonitored holds s e) × Keeps before after) ⊎ AreSeedsCut holds s failed before after e
+-- specifications are asked, or invariants, and the file may hold an object; or a source that is refused, or of which one of the names is no specification's
+abbrev pub IsUnmonitored : (Name → List ℕ → Type 0) → Seeds → Failure → Type 0
+IsUnmonitored holds s e = ((monitors_of s ≡ []) × (s.invariants ≡ false) → ⊥) × ((text : List ℕ) × holds s.run.file.now text × IsUnwatched text (monitors_of s) e)
+
+-- why nothing is run: as no single run is; or specifications or invariants cannot be asked; or no log can be kept
+abbrev pub IsUnsown : Files → Seeds → Failure → Type 0
+IsUnsown f s e = IsUnrun f.holds f.lacks s.run e ⊎ (IsUnmonitored f.holds s e ⊎ IsUnkeepable (f.blocks log_mark) (option_copied s.keep) e)
+
+-- No file was changed. Nothing was run, and nothing is written; or not all is told; or all is, and the log is not kept.
+abbrev pub IsSeedsUnserved : Files → Seeds → Type 0 → Option (List ℕ) → Option (List ℕ) → Failure → Type 0
+IsSeedsUnserved f s failed before after e =
+    f.kept × ((IsUnsown f s e × Keeps before after) ⊎ (AreSeedsCut f s failed before after e ⊎ IsUnkept f s before after e))

@@ -1,5 +1,5 @@
 -- What a request comes to, from what files may hold to the bytes that are written.
-use Rattle.std.specs.Prelude.{◌≡◌, ℕ, ◌⊎◌, List, [], map, Option, None, Some, IfSome}
+use Rattle.std.specs.Prelude.{◌≡◌, ℕ, ◌⊎◌, List, [], map, Option, None, Some, IfSome, is_some, true, false}
 use Rattle.std.specs.Option.{option_copied, option_map}
 use Rattle.std.specs.String.{string_bytes}
 use Rattle.ioa_tree.specs.Runs.{Ending}
@@ -20,6 +20,7 @@ use Rattle.ioa_serving.specs.Explaining.{IsExplained, IsUnexplained}
 use Rattle.ioa_serving.specs.Headline.{IsReplay, IsLogReplay, IsInvariantReplay, IsMonitoring, IsLogStatesReplay, IsStatesReplay}
 use Rattle.ioa_serving.specs.Libraries.{IsUnlisted}
 use Rattle.ioa_serving.specs.ListLogs.{BeginsListLogOf, IsListLog}
+use Rattle.ioa_serving.specs.LogLogs.{BeginsLogLogOf, IsLogLog}
 use Rattle.ioa_serving.specs.Logs.{Found}
 use Rattle.ioa_serving.specs.RunReports.{wants_text}
 use Rattle.ioa_serving.specs.Pictures.{BeginsChartOf, IsGraphed, IsLogChart, IsUngraphed, selected}
@@ -27,6 +28,7 @@ use Rattle.ioa_serving.specs.Alone.{IsRunServed, IsRunUnserved}
 use Rattle.ioa_serving.specs.Seeds.{IsSeedsServed, IsSeedsUnserved}
 use Rattle.ioa_serving.specs.Failing.{IsFailure, IsInvariantFailure, IsLogReplayFailure, IsMonitorFailure, IsStatesFailure, IsUnwritten, BeginsReplayOf, BeginsLogOf, BeginsLogStatesOf, BeginsFoundOf, BeginsMonitorOf, BeginsStatesOf}
 use Rattle.ioa_serving.specs.Statuses.{answer_status, ending_status, found_status}
+use Rattle.ioa_serving.specs.Strict.{BeginsStrictOf, IsStrictMonitoring, StrictAnswer, strict_status}
 use Rattle.ioa_serving.specs.Watching.{IsWatchFailure, IsWatchServed}
 
 -- what is left to be told
@@ -52,9 +54,9 @@ run_failure (RunErr.BadLog i) = Failure.BadLog i
 run_failure RunErr.EndedByFault = Failure.EndedByFault
 run_failure RunErr.OutOfMemory = Failure.OutOfMemory
 
--- the file may hold a text such that the list or the log was replayed, or monitored, or the log of the list's run was written, in the
--- composition that is asked for, the last one where none is, with or without the states in which it ends; or the stream was watched by those that are asked for; or the log or the composition was drawn; or that passed the check; or its object was put
--- in a file; or it was dumped; or a composition was run, or so it was by many seeds; or the topic was explained; or the library's text was written. Reports of a run are left to be told, and the
+-- the file may hold a text such that the list or the log was replayed, or monitored, or the log of the list's run was written, or the log again, in the
+-- composition that is asked for, the last one where none is, with or without the states in which it ends; or the log was monitored strictly; or the stream was watched by those that are asked for; or the log or the composition was drawn; or that passed the check; or its object was put
+-- in a file; or it was dumped; or a composition was run, or so it was by many seeds, and a log of theirs was kept; or the topic was explained; or the library's text was written. Reports of a run are left to be told, and the
 -- workers to which memory was refused; or what the specifications of a watch counted
 abbrev pub IsServed : Files → Request → Change → Change → Option (List ℕ) → List ℕ → Status → Type 0
 IsServed f (Request.Replay file composition) input output told wants status =
@@ -75,19 +77,28 @@ IsServed f (Request.ReplayInvariants file composition) input output told wants s
 IsServed f (Request.Log file composition) input output told wants status =
     (text : List ℕ) × f.holds file.now text
     × ((end : Ending) × IfSome input.before.bytes (λ xs. IsListLog text (option_copied composition) xs end output.before.bytes output.after.bytes) × (status ≡ ending_status end)) × (told ≡ None)
+IsServed f (Request.LogByLog file composition) input output told wants status =
+    (text : List ℕ) × f.holds file.now text
+    × ((end : Ending) × IfSome input.before.bytes (λ xs. IsLogLog text (option_copied composition) xs end output.before.bytes output.after.bytes) × (status ≡ ending_status end)) × (told ≡ None)
 IsServed f (Request.Monitor file composition) input output told wants status =
     (text : List ℕ) × f.holds file.now text
-    × ((answer : Option Ending) × IfSome input.before.bytes (λ xs. IsMonitoring text (option_copied composition) xs answer output.before.bytes output.after.bytes) × (status ≡ answer_status answer)) × (told ≡ None)
-IsServed f (Request.Watch file compositions first counts) input output told wants status =
+    × ((answer : Option Ending) × IfSome input.before.bytes (λ xs. IsMonitoring false text (option_copied composition) xs answer output.before.bytes output.after.bytes) × (status ≡ answer_status answer)) × (told ≡ None)
+IsServed f (Request.MonitorJson file composition) input output told wants status =
     (text : List ℕ) × f.holds file.now text
-    × IsWatchServed text (texts compositions.now) first counts input.before.bytes output.before.bytes output.after.bytes told status
+    × ((answer : Option Ending) × IfSome input.before.bytes (λ xs. IsMonitoring true text (option_copied composition) xs answer output.before.bytes output.after.bytes) × (status ≡ answer_status answer)) × (told ≡ None)
+IsServed f (Request.StrictMonitor file composition json) input output told wants status =
+    (text : List ℕ) × f.holds file.now text
+    × ((answer : StrictAnswer) × IfSome input.before.bytes (λ xs. IsStrictMonitoring json text (option_copied composition) xs answer output.before.bytes output.after.bytes) × (status ≡ strict_status answer)) × (told ≡ None)
+IsServed f (Request.Watch file compositions first counts json) input output told wants status =
+    (text : List ℕ) × f.holds file.now text
+    × IsWatchServed text (texts compositions.now) first counts json input.before.bytes output.before.bytes output.after.bytes told status
 IsServed f (Request.Chart file composition selection) input output told wants status =
     (text : List ℕ) × f.holds file.now text
     × ((end : Ending) × IfSome input.before.bytes (λ xs. IsLogChart text (option_copied composition) (selected selection) xs end output.before.bytes output.after.bytes) × (status ≡ ending_status end)) × (told ≡ None)
 IsServed f (Request.Graph file composition) input output told wants status =
     ((text : List ℕ) × f.holds file.now text × IsGraphed text (option_copied composition) output.before.bytes output.after.bytes) × (status ≡ Status.Done) × (told ≡ None)
 IsServed f (Request.Run settings) input output told wants status = IsRunServed f.holds settings output.before.bytes output.after.bytes told wants status
-IsServed f (Request.Seeds seeds) input output told wants status = IsSeedsServed f.holds seeds output.before.bytes output.after.bytes status × (told ≡ None)
+IsServed f (Request.Seeds seeds) input output told wants status = IsSeedsServed f seeds output.before.bytes output.after.bytes status × (told ≡ None)
 IsServed f (Request.Check file compositions) input output told wants status =
     ((text : List ℕ) × f.holds file.now text × IsCheck text compositions output.before.bytes output.after.bytes) × (status ≡ Status.Done) × (told ≡ None)
 IsServed f (Request.Compile file out composition) input output told wants status =
@@ -129,14 +140,26 @@ IsUnserved f (Request.Log file composition) input output wants e =
     IsUnread (f.lacks file.now) output e
     ⊎ ((text : List ℕ) × f.holds file.now text × IsFailure text (option_copied composition) input.before.bytes (Failed input ⊎ Failed output) e
     × IsUnwritten (BeginsListLogOf text (option_copied composition) input.before.bytes) output.before.bytes output.after.bytes e)
+IsUnserved f (Request.LogByLog file composition) input output wants e =
+    IsUnread (f.lacks file.now) output e
+    ⊎ ((text : List ℕ) × f.holds file.now text × IsLogReplayFailure text (option_copied composition) input.before.bytes (Failed input ⊎ Failed output) e
+    × IsUnwritten (BeginsLogLogOf text (option_copied composition) input.before.bytes) output.before.bytes output.after.bytes e)
 IsUnserved f (Request.Monitor file composition) input output wants e =
     IsUnread (f.lacks file.now) output e
     ⊎ ((text : List ℕ) × f.holds file.now text × IsMonitorFailure text (option_copied composition) input.before.bytes (Failed input ⊎ Failed output) e
-    × IsUnwritten (BeginsMonitorOf text (option_copied composition) input.before.bytes) output.before.bytes output.after.bytes e)
-IsUnserved f (Request.Watch file compositions first counts) input output wants e =
+    × IsUnwritten (BeginsMonitorOf false text (option_copied composition) input.before.bytes) output.before.bytes output.after.bytes e)
+IsUnserved f (Request.MonitorJson file composition) input output wants e =
+    IsUnread (f.lacks file.now) output e
+    ⊎ ((text : List ℕ) × f.holds file.now text × IsMonitorFailure text (option_copied composition) input.before.bytes (Failed input ⊎ Failed output) e
+    × IsUnwritten (BeginsMonitorOf true text (option_copied composition) input.before.bytes) output.before.bytes output.after.bytes e)
+IsUnserved f (Request.StrictMonitor file composition json) input output wants e =
+    IsUnread (f.lacks file.now) output e
+    ⊎ ((text : List ℕ) × f.holds file.now text × IsMonitorFailure text (option_copied composition) input.before.bytes (Failed input ⊎ Failed output) e
+    × IsUnwritten (BeginsStrictOf json text (option_copied composition) input.before.bytes) output.before.bytes output.after.bytes e)
+IsUnserved f (Request.Watch file compositions first counts json) input output wants e =
     IsUnread (f.lacks file.now) output e
     ⊎ ((text : List ℕ) × f.holds file.now text
-    × IsWatchFailure text (texts compositions.now) first input.before.bytes (Failed input ⊎ Failed output) output.before.bytes output.after.bytes e)
+    × IsWatchFailure text (texts compositions.now) first json input.before.bytes (Failed input ⊎ Failed output) output.before.bytes output.after.bytes e)
 IsUnserved f (Request.Chart file composition selection) input output wants e =
     IsUnread (f.lacks file.now) output e
     ⊎ ((text : List ℕ) × f.holds file.now text × IsLogReplayFailure text (option_copied composition) input.before.bytes (Failed input ⊎ Failed output) e
@@ -146,7 +169,7 @@ IsUnserved f (Request.Graph file composition) input output wants e =
     ⊎ ((text : List ℕ) × f.holds file.now text × IsUngraphed text (option_copied composition) (Failed output) output.before.bytes output.after.bytes e)
 IsUnserved f (Request.Run settings) input output wants e =
     IsRunUnserved f.holds f.lacks settings (Failed output) output.before.bytes output.after.bytes wants e
-IsUnserved f (Request.Seeds seeds) input output wants e = IsSeedsUnserved f.holds f.lacks seeds (Failed output) output.before.bytes output.after.bytes e
+IsUnserved f (Request.Seeds seeds) input output wants e = IsSeedsUnserved f seeds (Failed output) output.before.bytes output.after.bytes e
 IsUnserved f (Request.Check file compositions) input output wants e =
     IsUnread (f.lacks file.now) output e
     ⊎ ((text : List ℕ) × f.holds file.now text × IsCheckFailure text compositions (Failed output) e × IsUnchecked output.before.bytes output.after.bytes e)
@@ -165,8 +188,11 @@ IsReading (Request.ReplayLog file composition) = Unit {0}
 IsReading (Request.ReplayLogStates file composition) = Unit {0}
 IsReading (Request.ReplayInvariants file composition) = Unit {0}
 IsReading (Request.Log file composition) = Unit {0}
+IsReading (Request.LogByLog file composition) = Unit {0}
 IsReading (Request.Monitor file composition) = Unit {0}
-IsReading (Request.Watch file compositions first counts) = Unit {0}
+IsReading (Request.MonitorJson file composition) = Unit {0}
+IsReading (Request.StrictMonitor file composition json) = Unit {0}
+IsReading (Request.Watch file compositions first counts json) = Unit {0}
 IsReading (Request.Chart file composition selection) = Unit {0}
 IsReading (Request.Graph file composition) = ⊥
 IsReading (Request.Run settings) = ⊥
@@ -185,8 +211,11 @@ IsRunning (Request.ReplayLog file composition) = ⊥
 IsRunning (Request.ReplayLogStates file composition) = ⊥
 IsRunning (Request.ReplayInvariants file composition) = ⊥
 IsRunning (Request.Log file composition) = ⊥
+IsRunning (Request.LogByLog file composition) = ⊥
 IsRunning (Request.Monitor file composition) = ⊥
-IsRunning (Request.Watch file compositions first counts) = ⊥
+IsRunning (Request.MonitorJson file composition) = ⊥
+IsRunning (Request.StrictMonitor file composition json) = ⊥
+IsRunning (Request.Watch file compositions first counts json) = ⊥
 IsRunning (Request.Chart file composition selection) = ⊥
 IsRunning (Request.Graph file composition) = ⊥
 IsRunning (Request.Run settings) = Unit {0}
@@ -205,12 +234,15 @@ IsSaving (Request.ReplayLog file composition) = ⊥
 IsSaving (Request.ReplayLogStates file composition) = ⊥
 IsSaving (Request.ReplayInvariants file composition) = ⊥
 IsSaving (Request.Log file composition) = ⊥
+IsSaving (Request.LogByLog file composition) = ⊥
 IsSaving (Request.Monitor file composition) = ⊥
-IsSaving (Request.Watch file compositions first counts) = ⊥
+IsSaving (Request.MonitorJson file composition) = ⊥
+IsSaving (Request.StrictMonitor file composition json) = ⊥
+IsSaving (Request.Watch file compositions first counts json) = ⊥
 IsSaving (Request.Chart file composition selection) = ⊥
 IsSaving (Request.Graph file composition) = ⊥
 IsSaving (Request.Run settings) = ⊥
-IsSaving (Request.Seeds seeds) = ⊥
+IsSaving (Request.Seeds seeds) = is_some seeds.keep ≡ true
 IsSaving (Request.Check file compositions) = ⊥
 IsSaving (Request.Compile file out composition) = Unit {0}
 IsSaving (Request.Dump file) = ⊥

@@ -55,21 +55,21 @@ some_refuses ps acts = list_any (λ p. is_some (refused_by p acts)) ps
 
 -- The stream is watched by the specifications until nothing more can be told, and what is told is written; this is whether one refused something, and
 -- what they counted, where that is asked for.
-pub record IsWatching (text : List ℕ) (names : List Name) (first counts : Bool) (bytes : List ℕ) (before after counted : Option (List ℕ)) (refused : Bool) : Type 0 where
+pub record IsWatching (text : List ℕ) (names : List Name) (first counts json : Bool) (bytes : List ℕ) (before after counted : Option (List ℕ)) (refused : Bool) : Type 0 where
   pub source : SourceTree
   pub programs : List Prog
   pub specified : AreSpecified text names source programs
   pub told : List ℕ
   pub acts : List Act
-  pub watches : IsWatched (types_of source) programs first bytes told acts
+  pub watches : IsWatched json (types_of source) programs first bytes told acts
   pub written : Appends before after told
   pub counted_is : MayTell counts (counted_text programs acts) counted
   pub refused_is : refused ≡ some_refuses programs acts
 
 -- So it is of the bytes, where these are known; the status tells whether one refused something, and nothing else is told unasked.
-abbrev pub IsWatchServed : List ℕ → List Name → Bool → Bool → Option (List ℕ) → Option (List ℕ) → Option (List ℕ) → Option (List ℕ) → Status → Type 0
-IsWatchServed text names first counts bytes before after counted status =
-    (refused : Bool) × IfSome bytes (λ xs. IsWatching text names first counts xs before after counted refused) × (status ≡ watch_status refused)
+abbrev pub IsWatchServed : List ℕ → List Name → Bool → Bool → Bool → Option (List ℕ) → Option (List ℕ) → Option (List ℕ) → Option (List ℕ) → Status → Type 0
+IsWatchServed text names first counts json bytes before after counted status =
+    (refused : Bool) × IfSome bytes (λ xs. IsWatching text names first counts json xs before after counted refused) × (status ≡ watch_status refused)
     × (counts ≡ false → counted ≡ None)
 
 -- ---- why nothing is watched
@@ -110,7 +110,7 @@ IsUnwatched text names e =
 -- ---- why not all is watched
 
 -- The specifications watch the stream up to a line that is none, or until a device failed or memory was short; what is told before is written.
-pub record IsWatchCut (text : List ℕ) (names : List Name) (first : Bool) (bytes : Option (List ℕ)) (failed : Type 0) (before after : Option (List ℕ)) (e : Failure) : Type 0 where
+pub record IsWatchCut (text : List ℕ) (names : List Name) (first json : Bool) (bytes : Option (List ℕ)) (failed : Type 0) (before after : Option (List ℕ)) (e : Failure) : Type 0 where
   pub source : SourceTree
   pub programs : List Prog
   pub specified : AreSpecified text names source programs
@@ -118,9 +118,9 @@ pub record IsWatchCut (text : List ℕ) (names : List Name) (first : Bool) (byte
   pub error_is : e ≡ Failure.List error
   pub kind : IsLineErr error ⊎ (error ≡ LogErr.Io)
   pub device : error ≡ LogErr.Io → failed
-  pub cut : IfSome bytes (λ xs. IsFailed (types_of source) programs first xs before after error)
+  pub cut : IfSome bytes (λ xs. IsFailed json (types_of source) programs first xs before after error)
 
 -- nothing is watched, and nothing is written; or not all is watched
-abbrev pub IsWatchFailure : List ℕ → List Name → Bool → Option (List ℕ) → Type 0 → Option (List ℕ) → Option (List ℕ) → Failure → Type 0
-IsWatchFailure text names first bytes failed before after e =
-    (IsUnwatched text names e × Keeps before after) ⊎ IsWatchCut text names first bytes failed before after e
+abbrev pub IsWatchFailure : List ℕ → List Name → Bool → Bool → Option (List ℕ) → Type 0 → Option (List ℕ) → Option (List ℕ) → Failure → Type 0
+IsWatchFailure text names first json bytes failed before after e =
+    (IsUnwatched text names e × Keeps before after) ⊎ IsWatchCut text names first json bytes failed before after e

@@ -1,14 +1,17 @@
-//! What specifications answer to a run that is over, of which the log is kept in memory.
+//! What specifications answer to a run that is over, of which the log is kept in memory, and which invariant its states break.
 
 ghost use Rattle.std.specs.Prelude.{◌≡◌, IfOk, length, map, option_map};
 ghost use Rattle.ioa_compile.specs.Tables.{start_states, tabled};
 ghost use Rattle.ioa_system.specs.Outcomes.{ending_of};
 ghost use Rattle.ioa_system.specs.Logs.{logged};
+ghost use Rattle.ioa_log.specs.Breaking.{broken_of};
 ghost use Rattle.ioa_log.specs.Monitoring.{monitored};
 ghost use Rattle.ioa_serving.specs.Logs.{performed_in};
-ghost use Rattle.ioa_serving.specs.SeedRuns.{judged_of, table_answer};
+ghost use Rattle.ioa_serving.specs.SeedRuns.{broken_in, judged_of, table_answer};
 
 use ioa_compile::Program;
+use ioa_compose::Composition;
+use ioa_log::{Broken, invariants};
 use ioa_system::{End, Log, LogEnd, Step, System};
 use ioa_value::OutOfMemory;
 use std::alloc::Global;
@@ -18,15 +21,47 @@ use std::alloc::Global;
 pub struct JudgedRun {
     pub log: Log,
     pub answers: Vec<Option<End>>,
+    /// Where it is asked whether its states keep the invariants: the first that is broken, or nothing where none is.
+    pub inspected: Option<Option<Broken>>,
 }
 
-/// A run with the answers of these specifications. It asks that all that they do is seen.
-pub fn judged(alloc: Global, specifications: &[Program], log: Log) -> Result<JudgedRun, OutOfMemory>
+/// A run with the answers of these specifications, and with the first invariant that is broken, where a composition is given, whose run it is. It asks that all
+/// that the specifications do is seen.
+pub fn judged(
+    alloc: Global,
+    specifications: &[Program],
+    composition: &Option<Composition>,
+    log: Log,
+) -> Result<JudgedRun, OutOfMemory>
     ensures log { IfOk result (λ j. (judged_of j).log ≡ logged log) }
     ensures answers { IfOk result (λ j. (judged_of j).answers ≡ map (table_answer (logged log)) specifications.now) }
+    ensures inspected { IfOk result (λ j. (judged_of j).inspected ≡ broken_in composition.now (logged log)) }
 {
+    let inspected = inspected_in(alloc, composition, &log)?;
     let answers = answers_of(alloc, specifications, &log)?;
-    Ok(JudgedRun { log, answers })
+    Ok(JudgedRun {
+        log,
+        answers,
+        inspected,
+    })
+}
+
+/// The first of the source's invariants that is broken in a state of the composition's run that the log tells, if one is; nothing without a composition. The
+/// log of a run is one of the composition's, which leaves no other error than want of memory.
+fn inspected_in(
+    alloc: Global,
+    composition: &Option<Composition>,
+    log: &Log,
+) -> Result<Option<Option<Broken>>, OutOfMemory>
+    ensures { IfOk result (λ inspected. option_map (option_map broken_of) inspected ≡ broken_in composition.now (logged log.now)) }
+{
+    let Some(composition) = composition else {
+        return Ok(None);
+    };
+    match invariants(alloc, composition, log) {
+        Ok(broken) => Ok(Some(broken)),
+        Err(_) => Err(OutOfMemory),
+    }
 }
 
 /// What each specification answers.
@@ -66,7 +101,7 @@ fn answer_of(alloc: Global, specification: &Program, log: &Log) -> Result<Option
 }
 
 /// How many actions the log tells to be performed: the last one of a log that ends by a fault is not.
-fn performed_count(log: &Log) -> usize
+pub fn performed_count(log: &Log) -> usize
     ensures { result ≡ length (performed_in (logged log.now)) }
 {
     match log.end {

@@ -17,12 +17,18 @@ mod compile;
 mod composition_graph;
 mod dump;
 mod object_file;
+mod placing;
 
 // Lists and logs.
+mod at_hand;
+mod cuts;
 mod invariant_replay;
+mod json;
 mod judged;
 mod list_log;
 mod log_chart;
+mod log_counts;
+mod log_log;
 mod log_replay;
 mod monitor;
 mod replay;
@@ -30,8 +36,11 @@ mod specifications;
 mod states_replay;
 mod stream_counts;
 mod stream_watch;
+mod strict_monitor;
+mod verdict;
 
 // Runs.
+mod kept_log;
 mod ready;
 mod reports;
 mod run;
@@ -40,6 +49,7 @@ mod script;
 mod seed;
 mod seed_counts;
 mod seed_lines;
+mod seed_tally;
 mod seeds;
 mod sown;
 mod trace;
@@ -60,24 +70,30 @@ mod library;
 // Laws.
 mod laws;
 
+pub use at_hand::AtHand;
 pub use check::check_text;
 pub use compile::{compile_text, compose_text, is_object, object_of, program_of};
 pub use composition_graph::graph_text;
+pub use cuts::cut_text;
 pub use dump::dump_object;
 pub use failure::Failure;
 pub use groups::groups_of;
 pub use invariant_replay::{Finding, replay_invariants_text};
+pub use kept_log::{LOG_MARK, log_bytes};
 pub use laws::{
-    objects_do_as_their_sources, objects_run_as_their_sources, one_composition,
-    silent_runs_lack_no_memory, stenning_delivers,
+    cuts_are_beginnings, objects_do_as_their_sources, objects_run_as_their_sources,
+    one_composition, silent_runs_lack_no_memory, stenning_delivers, strict_answers_agree,
 };
 pub use library::write_library;
 pub use list_log::log_list_text;
 pub use log_chart::chart_log_text;
+pub use log_counts::put_monitor_counts;
+pub use log_log::log_log_text;
 pub use log_replay::replay_log_text;
 pub use monitor::{monitor_text, performed_in};
-pub use object_file::{compile_file, gives_way};
+pub use object_file::{OBJECT_MARK, compile_file};
 pub use pace::{Arrival, Pace};
+pub use placing::gives_way;
 pub use progress::Progress;
 pub use replay::replay_text;
 pub use reports::send_wants;
@@ -88,3 +104,5 @@ pub use states_replay::{replay_log_states_text, replay_states_text};
 pub use status::{Status, status_of};
 pub use store::{Store, StoreErr};
 pub use stream_watch::watch_text;
+pub use strict_monitor::strict_monitor_text;
+pub use verdict::{Verdict, status_of_verdict};

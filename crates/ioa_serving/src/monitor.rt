@@ -1,6 +1,6 @@
 //! `monitor`: whether a specification accepts what a log tells.
 
-ghost use Rattle.std.specs.Prelude.{◌≡◌, ◌⊎◌, IfOk, IfErr, IfSome, IsErrOf, map, option_map};
+ghost use Rattle.std.specs.Prelude.{◌≡◌, ◌⊎◌, false, IfOk, IfErr, IfSome, IsErrOf, map, option_map};
 ghost use Rattle.std.specs.Option.{option_copied};
 ghost use Rattle.std.specs.String.{string_bytes};
 ghost use Rattle.ioa_value.specs.Actions.{act_of};
@@ -15,6 +15,7 @@ ghost use Rattle.ioa_serving.specs.Logs.{answer_line};
 
 use crate::compile::program_of;
 use crate::failure::Failure;
+use crate::json::answer_object;
 use ioa_account::actions_in;
 use ioa_log::{InputDevice, OutputDevice, hides_actions, monitor_log, send_all};
 use ioa_system::{End, Log, LogEnd};
@@ -22,7 +23,7 @@ use ioa_value::{Action, OutOfMemory};
 use std::alloc::Global;
 use std::fmt::Write;
 
-/// Monitors a log by a composition of a source, or by an object, given the bytes of both: writes whether the composition accepts the actions that the log
+/// Monitors a log by a composition of a source, or by an object, given the bytes of both: writes, as a JSON object or not, whether the composition accepts the actions that the log
 /// tells to be performed, and answers why not. The log is read line by line.
 ///
 /// # Errors
@@ -32,14 +33,15 @@ pub fn monitor_text<R: InputDevice, W: OutputDevice>(
     alloc: Global,
     text: &[u8],
     composition: Option<&str>,
+    json: bool,
     input: &mut R,
     output: &mut W,
 ) -> Result<Option<End>, Failure>
     ensures monitors { IfOk result (λ answer. IfSome (R.remaining input.old) (λ bytes.
-        IsMonitoring text.now (option_copied composition.entry) bytes (option_map ending_of answer) (W.contents output.old) (W.contents output.new))) }
+        IsMonitoring json text.now (option_copied composition.entry) bytes (option_map ending_of answer) (W.contents output.old) (W.contents output.new))) }
     ensures refused { IfErr result (λ e. IsMonitorFailure text.now (option_copied composition.entry) (R.remaining input.old)
         (HasFailed (R.failure_count input.old) (R.failure_count input.new) ⊎ HasFailed (W.failure_count output.old) (W.failure_count output.new)) e) }
-    ensures unwritten { IfErr result (λ e. IsUnwritten (BeginsMonitorOf text.now (option_copied composition.entry) (R.remaining input.old))
+    ensures unwritten { IfErr result (λ e. IsUnwritten (BeginsMonitorOf json text.now (option_copied composition.entry) (R.remaining input.old))
         (W.contents output.old) (W.contents output.new) e) }
     ensures passed { (IsErrOf result (Failure.List LogErr.Io) → ⊥)
         → (R.failure_count input.new ≡ R.failure_count input.old) × (W.failure_count output.new ≡ W.failure_count output.old) }
@@ -50,7 +52,7 @@ pub fn monitor_text<R: InputDevice, W: OutputDevice>(
         return Err(Failure::SpecHasInternal);
     }
     let answer = monitor_log(alloc, &program, input)?;
-    let line = answer_text(alloc, answer)?;
+    let line = answer_text(alloc, json, answer)?;
     send_all(output, line.as_bytes())?;
     Ok(answer)
 }
@@ -69,9 +71,19 @@ pub fn performed_in(alloc: Global, log: Log) -> Result<Vec<Action>, OutOfMemory>
     Ok(actions)
 }
 
-/// A line with the answer of a monitor.
-fn answer_text(alloc: Global, answer: Option<End>) -> Result<String, OutOfMemory>
-    ensures { IfOk result (λ text. string_bytes text ≡ answer_line (option_map ending_of answer)) }
+/// A line with the answer of a monitor, as a JSON object or not.
+fn answer_text(alloc: Global, json: bool, answer: Option<End>) -> Result<String, OutOfMemory>
+    ensures { IfOk result (λ text. string_bytes text ≡ answer_line json (option_map ending_of answer)) }
+{
+    if json {
+        return answer_object(alloc, answer);
+    }
+    answer_words(alloc, answer)
+}
+
+/// A line with the answer of a monitor in words.
+fn answer_words(alloc: Global, answer: Option<End>) -> Result<String, OutOfMemory>
+    ensures { IfOk result (λ text. string_bytes text ≡ answer_line false (option_map ending_of answer)) }
 {
     let mut text = String::new(alloc);
     match answer {

@@ -1,20 +1,24 @@
 //! `compile`: objects in files, where only objects and empty files give way to them.
 
-ghost use Rattle.std.specs.Prelude.{◌≡◌, ◌↔◌, IsTrue, OnOk, IfErr, IsErrOf, Some};
-ghost use Rattle.std.specs.Option.{option_copied, option_map};
+ghost use Rattle.std.specs.Prelude.{◌≡◌, OnOk, IfErr, IsErrOf};
+ghost use Rattle.std.specs.Option.{option_copied};
+ghost use Rattle.ioa_object.specs.Spelling.{mark};
 ghost use Rattle.ioa_log.specs.declared.failure.LogErr.{LogErr};
 ghost use Rattle.ioa_log.specs.Failing.{FailedOnceAtMost};
 ghost use Rattle.ioa_serving.specs.Compiling.{IsMade, IsUnmade};
 ghost use Rattle.ioa_serving.specs.Devices.{change, files};
-ghost use Rattle.ioa_serving.specs.Placing as spec;
 ghost use Rattle.ioa_serving.specs.Placing.{Blocks, Places};
 ghost use Rattle.ioa_serving.specs.declared.store.StoreErr.{StoreErr};
 
 use crate::compile::object_of;
 use crate::failure::Failure;
+use crate::placing::put_in_place;
 use crate::store::{Store, StoreErr};
 use ioa_log::{OutputDevice, send_all};
 use std::alloc::Global;
+
+/// The bytes with which an object begins.
+pub const OBJECT_MARK: [u8; 4] = [0x7F, 0x49, 0x4F, 0x41];
 
 /// Puts the object of a composition of a source in the file `out`, and writes `ok` on a line.
 ///
@@ -48,32 +52,9 @@ pub fn compile_file<F: Store, W: OutputDevice>(
 /// # Errors
 /// `Io` where a file stands there that is no object, or the store does not write it; or want of memory. No file was changed then.
 fn place<F: Store>(alloc: Global, out: &str, object: &[u8], store: &mut F) -> Result<(), StoreErr>
-    ensures ok { OnOk result (Places (F.begins store.old) (F.saves store.old store.new) out.now object.now) }
-    ensures io { IsErrOf result StoreErr.Io → Blocks (F.begins store.old) (F.bars store.old) out.now }
+    ensures ok { OnOk result (Places mark (F.begins store.old) (F.saves store.old store.new) out.now object.now) }
+    ensures io { IsErrOf result StoreErr.Io → Blocks mark (F.begins store.old) (F.bars store.old) out.now }
     ensures kept { IfErr result (λ _. store.new ≡ store.old) }
 {
-    let found = store.beginning(alloc, out)?;
-    if !gives_way(&found) {
-        return Err(StoreErr::Io);
-    }
-    store.save(alloc, out, object)
-}
-
-/// Whether an object may be put where this stands: no file that can be read, an empty one, or one that begins as an object does.
-pub fn gives_way(found: &Option<Vec<u8>>) -> bool
-    ensures { IsTrue result ↔ spec.GivesWay (option_map (λ bytes. bytes.items) found.now) }
-{
-    match found {
-        Some(bytes) => is_empty_or_marked(bytes.as_slice()),
-        None => true,
-    }
-}
-
-fn is_empty_or_marked(bytes: &[u8]) -> bool
-    ensures { IsTrue result ↔ spec.GivesWay (Some bytes.now) }
-{
-    match bytes {
-        [] | [0x7F, 0x49, 0x4F, 0x41, ..] => true,
-        _ => false,
-    }
+    put_in_place(alloc, out, &OBJECT_MARK, object, store)
 }

@@ -1,23 +1,27 @@
-//! How many of the runs by many seeds ended in each way, and how many each specification does not accept.
+//! How many of the runs by many seeds ended in each way, how many each specification does not accept, and how many break an invariant.
 
-ghost use Rattle.std.specs.Prelude.{◌≡◌, ◌==◌, ◌-◌, ◌<◌, ◌≤◌, ◌^◌, All, cond, length, map, not, option_map};
+ghost use Rattle.std.specs.Prelude.{◌≡◌, ◌==◌, ◌-◌, ◌<◌, ◌≤◌, ◌^◌, All, cond, false, is_some, length, map, not, option_map};
 ghost use Rattle.std.specs.List.{list_any};
+ghost use Rattle.std.specs.Option.{option_map_or};
 ghost use Rattle.ioa_system.specs.Logs as logs;
 ghost use Rattle.ioa_system.specs.Logs.{log_end};
 ghost use Rattle.ioa_system.specs.Outcomes.{ending_of};
+ghost use Rattle.ioa_log.specs.Breaking.{broken_of};
 ghost use Rattle.ioa_serving.specs.Seeds.{with_refusals};
 
 use crate::judged::JudgedRun;
 use crate::status::Status;
+use ioa_log::Broken;
 use ioa_system::{End, LogEnd};
 use std::alloc::{AllocError, Global};
 
-/// How many runs ended in each of the two ways, and how many each specification does not accept.
+/// How many runs ended in each of the two ways, how many each specification does not accept, and how many break an invariant.
 #[derive(Drop)]
 pub struct Counts {
     pub done: u128,
     pub fault: u128,
     pub refusals: Vec<u128>,
+    pub broken: u128,
 }
 
 impl Counts {
@@ -34,6 +38,7 @@ impl Counts {
             done: 0,
             fault: 0,
             refusals,
+            broken: 0,
         })
     }
 
@@ -46,14 +51,15 @@ impl Counts {
         let faulted = is_faulted(judged.log.end);
         self.done += one_if(!faulted);
         self.fault += one_if(faulted);
+        self.broken += one_if(is_broken(judged.inspected));
         add_refusals(&mut self.refusals, &judged.answers);
     }
 
     /// The exit status of these runs.
     pub fn status(&self) -> Status
-        ensures { result ≡ counts_status self.now.fault self.now.refusals.items }
+        ensures { result ≡ counts_status self.now.fault self.now.refusals.items self.now.broken }
     {
-        if some_counted(&self.refusals) {
+        if some_counted(&self.refusals) || self.broken != 0 {
             Status::NotAccepted
         } else if self.fault == 0 {
             Status::Done
@@ -77,6 +83,16 @@ fn is_faulted(end: LogEnd) -> bool
     match end {
         LogEnd::Done(_) => false,
         LogEnd::Fault(_, _, _) => true,
+    }
+}
+
+/// Whether an invariant is broken.
+pub fn is_broken(inspected: Option<Option<Broken>>) -> bool
+    ensures { result ≡ option_map_or is_some (option_map (option_map broken_of) inspected) false }
+{
+    match inspected {
+        Some(Some(_)) => true,
+        Some(None) | None => false,
     }
 }
 

@@ -1,6 +1,6 @@
 //! `run --seeds`: runs by many seeds of one program, which is read and compiled once, each told on a line.
 
-ghost use Rattle.std.specs.Prelude.{◌≡◌, ◌≢◌, ◌⊎◌, ◌↔◌, [], ℕ, List, None, Err, Ok, IsTrue, IfOk, IfErr, IsErrOf, OnErr, OnOk, length, map, take};
+ghost use Rattle.std.specs.Prelude.{◌≡◌, ◌≢◌, ◌⊎◌, ◌↔◌, [], ℕ, List, None, Err, Ok, IsTrue, IfOk, IfErr, IsErrOf, OnErr, OnOk, is_some, length, map, take, true};
 ghost use Rattle.std.specs.Io.KnownBytes.{Appends, Keeps};
 ghost use Rattle.ioa_value.specs.Actions.{act_of};
 ghost use Rattle.ioa_system.specs.Logs.{logged};
@@ -9,17 +9,19 @@ ghost use Rattle.ioa_log.specs.Failing.{FailedOnceAtMost, HasFailed};
 ghost use Rattle.ioa_request.specs.Pasted.{texts};
 ghost use Rattle.ioa_run.specs.Alone.{NoMemory, RefusesResumed};
 ghost use Rattle.ioa_run.specs.declared.run_err.RunErr.{RunErr};
-ghost use Rattle.ioa_serving.specs.SeedRuns.{IsBegun, IsCountOf, IsNoneRun, IsSeedJudgment, IsSeedRefused, IsSeedRun, IsTold, judged_of};
-ghost use Rattle.ioa_serving.specs.Seeds.{IsSeedsServed, IsSeedsUnserved, Judged, seed_line};
+ghost use Rattle.ioa_serving.specs.SeedRuns.{IsBegun, IsNoneRun, IsSeedJudgment, IsSeedRefused, IsSeedRun, IsTallyOf, IsTold, judged_of};
+ghost use Rattle.ioa_serving.specs.Devices.{files};
+ghost use Rattle.ioa_serving.specs.Seeds.{IsSeedsServed, IsSeedsUnserved, Judged, monitors_of, seed_line, seed_lines, seeds_text};
 ghost use Rattle.ioa_serving.specs.Serving.{reports_of};
 ghost use Rattle.ioa_serving.specs.declared.failure.Failure.{Failure};
 
 use crate::failure::Failure;
 use crate::judged::{JudgedRun, judged};
+use crate::kept_log::{ask_keep, keep};
 use crate::ready::Ready;
 use crate::seed::seeded;
-use crate::seed_counts::Counts;
 use crate::seed_lines::{counts_text, seed_text};
+use crate::seed_tally::Tally;
 use crate::served::{Served, silent};
 use crate::sown::{Sown, load_sown};
 use crate::store::Store;
@@ -29,32 +31,58 @@ use ioa_run::{Report, RunErr, Why, resume_alone};
 use std::alloc::Global;
 
 /// Runs a composition of a source, or an object, on one thread by each seed of these numbers, and writes a line for each, with the digits of the seed,
-/// the run's end and the answer of each specification that is asked, and then one with their counts. The file is read, checked and compiled once, and a
-/// line is written before the next run begins.
+/// the run's end, the answer of each specification that is asked, and the first invariant that is broken, where these are asked for, and then one with their
+/// counts. The file is read and checked once, and a line is written before the next run begins. Where a file is named for it, the shortest log that is refused is put there, the first of
+/// equal length; no more than that log and the last run's are in memory.
 ///
-/// Each line is that of the single run with this seed, where memory is refused to none of its workers, and its answers are those of the monitors of its log.
+/// Each line is that of the single run with this seed, where memory is refused to none of its workers, and its answers are those of the monitors of its log,
+/// and of the source's invariants in its states.
 ///
 /// # Errors
-/// As those of the single run, before anything is written; or where specifications are asked, `SourceWanted`, `Refused` and `SpecHasInternal` of the first
-/// that is none, also before. Or `List` where the device failed, which has taken no more than a beginning of the text; or want of memory, also that of a
-/// worker: the lines of the runs before it are written then.
+/// As those of the single run, before anything is written; or where specifications or invariants are asked, `SourceWanted`, and of the first specification that
+/// is none `Refused` and `SpecHasInternal`, also before; or `Io` where a log is to be kept in a file in which something else stands, also before. Or `List` where the device failed,
+/// which has taken no more than a beginning of the text; or want of memory, also that of a worker: the lines of the runs before it are written then. Or `Io`
+/// or want of memory where the log is not put in its file: all of the text is written then. No file was changed in any of these cases.
 pub fn run_seeds_file<F: Store, W: OutputDevice>(
     alloc: Global,
     seeds: &Seeds<'_>,
-    store: &F,
+    store: &mut F,
     output: &mut W,
 ) -> Result<Served, Failure>
-    ensures served { IfOk result (λ s. IsSeedsServed (F.holds store.now) seeds.now (W.contents output.old) (W.contents output.new) s.status × (reports_of s ≡ None)) }
-    ensures refused { IfErr result (λ e. IsSeedsUnserved (F.holds store.now) (F.lacks store.now) seeds.now (HasFailed (W.failure_count output.old) (W.failure_count output.new))
-        (W.contents output.old) (W.contents output.new) e) }
+    ensures served { IfOk result (λ s. IsSeedsServed (files F.holds F.lacks F.begins F.bars F.saves store.old store.new) seeds.now (W.contents output.old) (W.contents output.new) s.status
+        × (reports_of s ≡ None)) }
+    ensures refused { IfErr result (λ e. IsSeedsUnserved (files F.holds F.lacks F.begins F.bars F.saves store.old store.new) seeds.now
+        (HasFailed (W.failure_count output.old) (W.failure_count output.new)) (W.contents output.old) (W.contents output.new) e) }
+    ensures kept { (is_some seeds.now.keep ≡ true → ⊥) → store.new ≡ store.old }
     ensures passed { (IsErrOf result (Failure.List LogErr.Io) → ⊥) → W.failure_count output.new ≡ W.failure_count output.old }
     ensures once { FailedOnceAtMost (W.failure_count output.old) (W.failure_count output.new) }
 {
     let sown = load_sown(alloc, seeds, store)?;
-    let counts = tell_runs(alloc, seeds, &sown, output)?;
-    let line = counts_text(alloc, seeds.monitors, &counts)?;
+    ask_keep(alloc, seeds.keep, store)?;
+    let tally = tell_all(alloc, seeds, &sown, output)?;
+    let types = sown.ready.program.types();
+    keep(alloc, types, seeds.keep, &tally.shortest, store)?;
+    Ok(silent(tally.counts.status()))
+}
+
+/// Runs the program by each seed, writes a line for each, and then one with their counts.
+fn tell_all<W: OutputDevice>(
+    alloc: Global,
+    seeds: &Seeds<'_>,
+    sown: &Sown,
+    output: &mut W,
+) -> Result<Tally, Failure>
+    requires { length sown.now.specifications.items ≡ length seeds.now.monitors.now }
+    ensures told { IfOk result (λ t. (js : List Judged) × IsTold sown.now seeds.now (seeds_text (monitors_of seeds.now) seeds.now.invariants seeds.now.first js) (W.contents output.old) (W.contents output.new) t js) }
+    ensures refused { IfErr result (λ e. IsNoneRun sown.now seeds.now.run.turns (W.contents output.old) (W.contents output.new) e
+        ⊎ IsBegun sown.now seeds.now (HasFailed (W.failure_count output.old) (W.failure_count output.new)) (W.contents output.old) (W.contents output.new) e) }
+    ensures passed { (IsErrOf result (Failure.List LogErr.Io) → ⊥) → W.failure_count output.new ≡ W.failure_count output.old }
+    ensures once { FailedOnceAtMost (W.failure_count output.old) (W.failure_count output.new) }
+{
+    let tally = tell_runs(alloc, seeds, sown, output)?;
+    let line = counts_text(alloc, seeds.monitors, seeds.invariants, &tally.counts)?;
     send_all(output, line.as_bytes())?;
-    Ok(silent(counts.status()))
+    Ok(tally)
 }
 
 /// Runs the program by each seed, and writes a line for each as soon as it has ended.
@@ -63,41 +91,41 @@ fn tell_runs<W: OutputDevice>(
     seeds: &Seeds<'_>,
     sown: &Sown,
     output: &mut W,
-) -> Result<Counts, Failure>
+) -> Result<Tally, Failure>
     requires { length sown.now.specifications.items ≡ length seeds.now.monitors.now }
-    ensures told { IfOk result (λ counts. (js : List Judged) × IsTold sown.now seeds.now (W.contents output.old) (W.contents output.new) counts js) }
+    ensures told { IfOk result (λ t. (js : List Judged) × IsTold sown.now seeds.now (seed_lines (monitors_of seeds.now) seeds.now.first js) (W.contents output.old) (W.contents output.new) t js) }
     ensures refused { IfErr result (λ e. IsNoneRun sown.now seeds.now.run.turns (W.contents output.old) (W.contents output.new) e
         ⊎ IsBegun sown.now seeds.now (HasFailed (W.failure_count output.old) (W.failure_count output.new)) (W.contents output.old) (W.contents output.new) e) }
     ensures passed { (IsErrOf result (Failure.List LogErr.Io) → ⊥) → W.failure_count output.new ≡ W.failure_count output.old }
     ensures once { FailedOnceAtMost (W.failure_count output.old) (W.failure_count output.new) }
 {
-    let mut counts = counts_before(alloc, sown)?;
+    let mut tally = tally_before(alloc, sown)?;
     for number in seeds.first..=seeds.last {
         let judged = judge_seed(alloc, sown, seeds.run.turns, number)?;
         tell_run(alloc, seeds.monitors, number, &judged, output)?;
-        counts.add(&judged);
+        tally.add(judged);
     }
-    Ok(counts)
+    Ok(tally)
 }
 
-/// The counts before the first run.
-fn counts_before(alloc: Global, sown: &Sown) -> Result<Counts, RunErr>
-    ensures counted { IfOk result (λ c. IsCountOf (length sown.now.specifications.items) c []) }
+/// What is kept before the first run.
+fn tally_before(alloc: Global, sown: &Sown) -> Result<Tally, RunErr>
+    ensures counted { IfOk result (λ t. IsTallyOf (length sown.now.specifications.items) t []) }
     ensures memory { IfErr result (λ e. e ≡ RunErr.OutOfMemory) }
 {
-    match Counts::start(alloc, sown.specifications.len()) {
-        Ok(counts) => Ok(counts),
+    match Tally::start(alloc, sown.specifications.len()) {
+        Ok(tally) => Ok(tally),
         Err(_) => Err(RunErr::OutOfMemory),
     }
 }
 
-/// Runs the program on one thread by the seed of this number, and asks the specifications. Where memory is refused to a worker, there is no end to tell.
+/// Runs the program on one thread by the seed of this number, and asks the specifications and the invariants. Where memory is refused to a worker, there is no end to tell.
 fn judge_seed(alloc: Global, sown: &Sown, turns: u64, number: u64) -> Result<JudgedRun, RunErr>
     ensures judged { IfOk result (λ j. IsSeedJudgment sown.now turns number (judged_of j)) }
     ensures refused { IfErr result (λ e. IsSeedRefused sown.now turns e) }
 {
     let log = run_seed(alloc, &sown.ready, turns, number)?;
-    let judged = judged(alloc, &sown.specifications, log)?;
+    let judged = judged(alloc, &sown.specifications, &sown.composition, log)?;
     Ok(judged)
 }
 

@@ -64,7 +64,11 @@ fn push_counted(alloc: Global, text: &mut String, watcher: &Watcher<'_>) -> Resu
 }
 
 /// How many actions of each name were taken.
-fn taken_text(alloc: Global, names: &[&str], counts: &[u64]) -> Result<String, AllocError>
+pub(crate) fn taken_text(
+    alloc: Global,
+    names: &[&str],
+    counts: &[u64],
+) -> Result<String, AllocError>
     requires { length counts.now ≡ length names.now }
     ensures { IfOk result (λ text. string_bytes text ≡ spec.taken_text (shown names.now) counts.now) }
 {

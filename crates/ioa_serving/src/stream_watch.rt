@@ -21,7 +21,7 @@ use std::alloc::Global;
 
 /// Watches a stream of actions by compositions of a source, given the bytes of both: writes a line for each that refuses an action, as soon as it does, and
 /// at the end of the stream one for each that refused none; answers whether one refused something by the status. It ends there, or as soon as all have refused
-/// something; where the first refusal is enough, as soon as one has. Where the counts are asked for, they are left to be told, unless memory is short for them.
+/// something; where the first refusal is enough, as soon as one has. Where objects are asked for, each line is one. Where the counts are asked for, they are left to be told, unless memory is short for them.
 ///
 /// Kept of the stream are one line and the components' states, however long it is.
 ///
@@ -34,12 +34,13 @@ pub fn watch_text<R: InputDevice, W: OutputDevice>(
     compositions: &[&str],
     first: bool,
     counts: bool,
+    json: bool,
     input: &mut R,
     output: &mut W,
 ) -> Result<Served, Failure>
-    ensures watches { IfOk result (λ s. IsWatchServed text.now (texts compositions.now) first counts (R.remaining input.old)
+    ensures watches { IfOk result (λ s. IsWatchServed text.now (texts compositions.now) first counts json (R.remaining input.old)
         (W.contents output.old) (W.contents output.new) (reports_of s) s.status) }
-    ensures refused { IfErr result (λ e. IsWatchFailure text.now (texts compositions.now) first (R.remaining input.old)
+    ensures refused { IfErr result (λ e. IsWatchFailure text.now (texts compositions.now) first json (R.remaining input.old)
         (HasFailed (R.failure_count input.old) (R.failure_count input.new) ⊎ HasFailed (W.failure_count output.old) (W.failure_count output.new))
         (W.contents output.old) (W.contents output.new) e) }
     ensures passed { (IsErrOf result (Failure.List LogErr.Io) → ⊥)
@@ -52,6 +53,7 @@ pub fn watch_text<R: InputDevice, W: OutputDevice>(
         given.checked.types(),
         &given.programs,
         first,
+        json,
         input,
         output,
     )?;

@@ -29,13 +29,13 @@ begun_more old mid new xs ys front next =
       subst (Appends old new) (sym (ap (take (length taken)) whole ∙ take-append_seam taken (drop next.0 ys))) (Appends-trans old mid new xs (take next.0 ys) front next.1),
     )
 
-module _ (types : Table) (ps : List Prog) (first : Bool) (old : Option (List ℕ)) where
-  want : (bytes : List ℕ) (new : Option (List ℕ)) (e : LogErr) → IsWant e → IsBegun types ps first bytes old new → IsFailed types ps first bytes old new e
-  want bytes new e (inl io) b = subst (IsFailed types ps first bytes old new) (sym io) b
-  want bytes new e (inr memory) b = subst (IsFailed types ps first bytes old new) (sym memory) b
+module _ (json : Bool) (types : Table) (ps : List Prog) (first : Bool) (old : Option (List ℕ)) where
+  want : (bytes : List ℕ) (new : Option (List ℕ)) (e : LogErr) → IsWant e → IsBegun json types ps first bytes old new → IsFailed json types ps first bytes old new e
+  want bytes new e (inl io) b = subst (IsFailed json types ps first bytes old new) (sym io) b
+  want bytes new e (inr memory) b = subst (IsFailed json types ps first bytes old new) (sym memory) b
 
   -- before the first line
-  pub failed_before : (known : Option (List ℕ)) (e : LogErr) → IsWant e → IfSome known (λ bytes. IsFailed types ps first bytes old old e)
+  pub failed_before : (known : Option (List ℕ)) (e : LogErr) → IsWant e → IfSome known (λ bytes. IsFailed json types ps first bytes old old e)
   failed_before None e w = tt
   failed_before (Some bytes) e w =
       want bytes old e w (record {
@@ -60,34 +60,34 @@ module _ (types : Table) (ps : List Prog) (first : Bool) (old : Option (List ℕ
         by (Some bytes) t = k bytes (lines t.0) t.2
 
     -- all that is told of them is written
-    pub failed_behind : (new : Option (List ℕ)) (e : LogErr) → IsWant e → Appends old new (told ps acts) → IfSome known (λ bytes. IsFailed types ps first bytes old new e)
+    pub failed_behind : (new : Option (List ℕ)) (e : LogErr) → IsWant e → Appends old new (told json ps acts) → IfSome known (λ bytes. IsFailed json types ps first bytes old new e)
     failed_behind new e w written =
-        of_taken (λ bytes. IsFailed types ps first bytes old new e) (λ bytes after parted.
+        of_taken (λ bytes. IsFailed json types ps first bytes old new e) (λ bytes after parted.
         want bytes new e w (record {
           before = ls;
           after = after;
           parted = parted;
           acts = acts;
           came = came;
-          text = told ps acts;
+          text = told json ps acts;
           text_is = inl refl;
-          count = length (told ps acts);
-          written = subst (Appends old new) (sym (take_all (length (told ps acts)) (told ps acts) (omega arith))) written;
+          count = length (told json ps acts);
+          written = subst (Appends old new) (sym (take_all (length (told json ps acts)) (told json ps acts) (omega arith))) written;
         }))
 
     -- a beginning of it
-    pub failed_within : (mid new : Option (List ℕ)) (xs news : List ℕ) (e : LogErr) → IsWant e → told ps acts ≡ xs ++ news → Appends old mid xs
-        → (k : ℕ) × Appends mid new (take k news) → IfSome known (λ bytes. IsFailed types ps first bytes old new e)
+    pub failed_within : (mid new : Option (List ℕ)) (xs news : List ℕ) (e : LogErr) → IsWant e → told json ps acts ≡ xs ++ news → Appends old mid xs
+        → (k : ℕ) × Appends mid new (take k news) → IfSome known (λ bytes. IsFailed json types ps first bytes old new e)
     failed_within mid new xs news e w parts front next =
         let b = begun_more old mid new xs news front next in
-        of_taken (λ bytes. IsFailed types ps first bytes old new e) (λ bytes after parted.
+        of_taken (λ bytes. IsFailed json types ps first bytes old new e) (λ bytes after parted.
         want bytes new e w (record {
           before = ls;
           after = after;
           parted = parted;
           acts = acts;
           came = came;
-          text = told ps acts;
+          text = told json ps acts;
           text_is = inl refl;
           count = b.0;
           written = subst (λ xs. Appends old new (take b.0 xs)) (sym parts) b.1;
@@ -95,18 +95,18 @@ module _ (types : Table) (ps : List Prog) (first : Bool) (old : Option (List ℕ
 
     -- the stream ends, and a beginning of what is told there is written
     pub failed_last : (mid left_over : Option (List ℕ)) (new : Option (List ℕ)) (e : LogErr) → IsWant e → is_over first ps acts ≡ false
-        → IfSome left (λ all. (all ≡ []) × (left_over ≡ Some all)) → Appends old mid (told ps acts) → (k : ℕ) × Appends mid new (take k (accepted ps acts))
-        → IfSome known (λ bytes. IsFailed types ps first bytes old new e)
+        → IfSome left (λ all. (all ≡ []) × (left_over ≡ Some all)) → Appends old mid (told json ps acts) → (k : ℕ) × Appends mid new (take k (accepted json ps acts))
+        → IfSome known (λ bytes. IsFailed json types ps first bytes old new e)
     failed_last mid left_over new e w going none front next =
-        let b = begun_more old mid new (told ps acts) (accepted ps acts) front next in
-        of_all known left left_over ls taken (λ bytes. IsFailed types ps first bytes old new e) none (λ bytes all.
+        let b = begun_more old mid new (told json ps acts) (accepted json ps acts) front next in
+        of_all known left left_over ls taken (λ bytes. IsFailed json types ps first bytes old new e) none (λ bytes all.
         want bytes new e w (record {
           before = ls;
           after = [];
           parted = all ∙ sym (append-nil ls);
           acts = acts;
           came = came;
-          text = told ps acts ++ accepted ps acts;
+          text = told json ps acts ++ accepted json ps acts;
           text_is = inr (going, refl, refl);
           count = b.0;
           written = b.1;
@@ -115,46 +115,46 @@ module _ (types : Table) (ps : List Prog) (first : Bool) (old : Option (List ℕ
     -- ---- what is watched
 
     -- it is over
-    pub watched_over : (new : Option (List ℕ)) (Q : List Act → Type 0) → is_over first ps acts ≡ true → Appends old new (told ps acts) → Q acts
-        → IfSome known (λ bytes. (text : List ℕ) × (xs : List Act) × IsWatched types ps first bytes text xs × Appends old new text × Q xs)
+    pub watched_over : (new : Option (List ℕ)) (Q : List Act → Type 0) → is_over first ps acts ≡ true → Appends old new (told json ps acts) → Q acts
+        → IfSome known (λ bytes. (text : List ℕ) × (xs : List Act) × IsWatched json types ps first bytes text xs × Appends old new text × Q xs)
     watched_over new Q over written q =
-        of_taken (λ bytes. (text : List ℕ) × (xs : List Act) × IsWatched types ps first bytes text xs × Appends old new text × Q xs) (λ bytes after parted.
-        (told ps acts, acts, record { before = ls; after = after; parted = parted; came = came; all = inl (over, refl) }, written, q))
+        of_taken (λ bytes. (text : List ℕ) × (xs : List Act) × IsWatched json types ps first bytes text xs × Appends old new text × Q xs) (λ bytes after parted.
+        (told json ps acts, acts, record { before = ls; after = after; parted = parted; came = came; all = inl (over, refl) }, written, q))
 
     -- the stream ends
     pub watched_whole : (mid new left_over : Option (List ℕ)) (Q : List Act → Type 0) → is_over first ps acts ≡ false → IfSome left (λ all. (all ≡ []) × (left_over ≡ Some all))
-        → Appends old mid (told ps acts) → Appends mid new (accepted ps acts) → Q acts
-        → IfSome known (λ bytes. (text : List ℕ) × (xs : List Act) × IsWatched types ps first bytes text xs × Appends old new text × Q xs)
+        → Appends old mid (told json ps acts) → Appends mid new (accepted json ps acts) → Q acts
+        → IfSome known (λ bytes. (text : List ℕ) × (xs : List Act) × IsWatched json types ps first bytes text xs × Appends old new text × Q xs)
     watched_whole mid new left_over Q going none front last q =
-        of_all known left left_over ls taken (λ bytes. (text : List ℕ) × (xs : List Act) × IsWatched types ps first bytes text xs × Appends old new text × Q xs) none
+        of_all known left left_over ls taken (λ bytes. (text : List ℕ) × (xs : List Act) × IsWatched json types ps first bytes text xs × Appends old new text × Q xs) none
         (λ bytes all. (
-          told ps acts ++ accepted ps acts,
+          told json ps acts ++ accepted json ps acts,
           acts,
           record { before = ls; after = []; parted = all ∙ sym (append-nil ls); came = came; all = inr (going, refl, refl) },
-          Appends-trans old mid new (told ps acts) (accepted ps acts) front last,
+          Appends-trans old mid new (told json ps acts) (accepted json ps acts) front last,
           q,
         ))
 
     -- a line is read that is none, or memory is short for it
     pub failed_line : (mid next new : Option (List ℕ)) (line : List ℕ) (number : ℕ) (e : LogErr) → is_over first ps acts ≡ false → number ≡ length ls + 1 → IsLineErr e
         → IfSome left (λ all. (0 < length all) × (mid ≡ Some all)) → IfSome mid (λ all. (line ≡ first_line all) × (next ≡ Some (after_line all)))
-        → Appends old new (told ps acts)
+        → Appends old new (told json ps acts)
         → ((n : ℕ) → IsErrOf {T = Unit} (Err e) (LogErr.NotJson n) → (n ≡ number) × IsNotJson line)
         → ((n : ℕ) → IsErrOf {T = Unit} (Err e) (LogErr.BadEntry n) → (n ≡ number) × IsNoLine types (known_by ps) line)
-        → IfSome known (λ bytes. IsFailed types ps first bytes old new e)
+        → IfSome known (λ bytes. IsFailed json types ps first bytes old new e)
     failed_line mid next new line number e going numbered only some came_next written not_json bad = by e only not_json bad
       where
         by : (e : LogErr) → IsLineErr e
             → ((n : ℕ) → IsErrOf {T = Unit} (Err e) (LogErr.NotJson n) → (n ≡ number) × IsNotJson line)
             → ((n : ℕ) → IsErrOf {T = Unit} (Err e) (LogErr.BadEntry n) → (n ≡ number) × IsNoLine types (known_by ps) line)
-            → IfSome known (λ bytes. IsFailed types ps first bytes old new e)
+            → IfSome known (λ bytes. IsFailed json types ps first bytes old new e)
         by (LogErr.NotJson n) only text other =
             let x = text n refl in
-            of_line known left mid ls taken (λ bytes. IsFailed types ps first bytes old new (LogErr.NotJson n)) next line some came_next
+            of_line known left mid ls taken (λ bytes. IsFailed json types ps first bytes old new (LogErr.NotJson n)) next line some came_next
             (λ bytes after parted. record { before = ls; line = line; after = after; parted = parted; acts = acts; came = came; going = going; wrong_is = x.1; number = x.0 ∙ numbered; written = written })
         by (LogErr.BadEntry n) only text other =
             let x = other n refl in
-            of_line known left mid ls taken (λ bytes. IsFailed types ps first bytes old new (LogErr.BadEntry n)) next line some came_next
+            of_line known left mid ls taken (λ bytes. IsFailed json types ps first bytes old new (LogErr.BadEntry n)) next line some came_next
             (λ bytes after parted. record { before = ls; line = line; after = after; parted = parted; acts = acts; came = came; going = going; wrong_is = x.1; number = x.0 ∙ numbered; written = written })
         by (LogErr.WrongOwner n) only text other = absurd only
         by (LogErr.Diverges n) only text other = absurd only

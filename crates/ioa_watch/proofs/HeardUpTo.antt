@@ -123,8 +123,8 @@ over_is true ps acts ws h = any_refused ps acts ws h
 over_is false ps acts ws h = each_refused ps acts ws h
 
 -- what a stream answers to whether it is over
-pub over_of : (types : Table) (ps : List Prog) (first : Bool) (ls : List (List ℕ)) (acts : List Act) (s : Stream) (b : Bool) → HasCome types ps first ls acts s
+pub over_of : (json : Bool) (types : Table) (ps : List Prog) (first : Bool) (ls : List (List ℕ)) (acts : List Act) (s : Stream) (b : Bool) → HasCome json types ps first ls acts s
     → b ≡ (if s.first then list_any has_refused s.watchers.items else list_all has_refused s.watchers.items) → is_over first ps acts ≡ b
-over_of types ps first ls acts s b h e =
+over_of json types ps first ls acts s b h e =
     sym (over_is first ps acts s.watchers.items h.heard)
     ∙ ap (λ f. if f then list_any has_refused s.watchers.items else list_all has_refused s.watchers.items) (sym h.first_is) ∙ sym e

@@ -1,5 +1,5 @@
 -- What lines of streams tell, and how specifications are told of: each answer is computed.
-use Rattle.std.proofs.Common.{◌≡◌, [], Some, None, codes, refl}
+use Rattle.std.proofs.Common.{◌≡◌, [], Some, None, codes, false, refl, true}
 use Rattle.std.specs.Fmt.{digits}
 use Rattle.serde_json.specs.Data.{Data, string, number, unsigned, array, object, member, no_members, no_items}
 use Rattle.ioa_arithmetic.specs.declared.arithmetic.Fault.TheVariants.{Overflow}
@@ -35,19 +35,26 @@ without_values = refl
 
 -- ---- what is told
 
-refused : refusal_line (codes "Spec") (Some (not_enabled_at 3)) ≡ codes "Spec: not enabled at 3\n"
+refused : refusal_line false (codes "Spec") (Some (not_enabled_at 3)) ≡ codes "Spec: not enabled at 3\n"
 unfolding digits
 refused = refl
 
-faulting : refusal_line (codes "Spec") (Some (fault_at 0 Overflow 12)) ≡ codes "Spec: fault 1 in component 0 at 12\n"
+faulting : refusal_line false (codes "Spec") (Some (fault_at 0 Overflow 12)) ≡ codes "Spec: fault 1 in component 0 at 12\n"
 unfolding digits
 faulting = refl
 
-nothing_refused : refusal_line (codes "Spec") None ≡ []
+nothing_refused : refusal_line false (codes "Spec") None ≡ []
 nothing_refused = refl
 
-accepted : accepted_line (codes "Spec") None ≡ codes "Spec: ok\n"
+accepted : accepted_line false (codes "Spec") None ≡ codes "Spec: ok\n"
 accepted = refl
 
-not_accepted : accepted_line (codes "Spec") (Some (not_enabled_at 3)) ≡ []
+not_accepted : accepted_line false (codes "Spec") (Some (not_enabled_at 3)) ≡ []
 not_accepted = refl
+
+refused_object : refusal_line true (codes "Spec") (Some (fault_at 0 Overflow 12)) ≡ codes "{\"specification\":\"Spec\",\"verdict\":\"fault\",\"fault\":1,\"component\":0,\"index\":12}\n"
+unfolding digits
+refused_object = refl
+
+accepted_object : accepted_line true (codes "Spec") None ≡ codes "{\"specification\":\"Spec\",\"verdict\":\"ok\"}\n"
+accepted_object = refl

@@ -12,17 +12,17 @@ use Rattle.ioa_watch.specs.Streams.{Came, Tells, is_over, joined, known_by, told
 
 -- ---- what is told
 
-told_from_more : (ps : List Prog) (before acts : List Act) (a : Act)
-    → told_from ps before (acts ++ a ∷ []) ≡ told_from ps before acts ++ flat_map (told_at (before ++ acts) a) ps
-told_from_more ps before [] a =
-    append-nil (flat_map (told_at before a) ps) ∙ ap (λ xs. flat_map (told_at xs a) ps) (sym (append-nil before))
-told_from_more ps before (b ∷ acts) a =
-    ap (λ xs. flat_map (told_at before b) ps ++ xs) (told_from_more ps (before ++ b ∷ []) acts a)
-    ∙ ap (λ xs. flat_map (told_at before b) ps ++ (told_from ps (before ++ b ∷ []) acts ++ flat_map (told_at xs a) ps)) (append_assoc before (b ∷ []) acts)
-    ∙ sym (append_assoc (flat_map (told_at before b) ps) (told_from ps (before ++ b ∷ []) acts) (flat_map (told_at (before ++ b ∷ acts) a) ps))
+told_from_more : (json : Bool) (ps : List Prog) (before acts : List Act) (a : Act)
+    → told_from json ps before (acts ++ a ∷ []) ≡ told_from json ps before acts ++ flat_map (told_at json (before ++ acts) a) ps
+told_from_more json ps before [] a =
+    append-nil (flat_map (told_at json before a) ps) ∙ ap (λ xs. flat_map (told_at json xs a) ps) (sym (append-nil before))
+told_from_more json ps before (b ∷ acts) a =
+    ap (λ xs. flat_map (told_at json before b) ps ++ xs) (told_from_more json ps (before ++ b ∷ []) acts a)
+    ∙ ap (λ xs. flat_map (told_at json before b) ps ++ (told_from json ps (before ++ b ∷ []) acts ++ flat_map (told_at json xs a) ps)) (append_assoc before (b ∷ []) acts)
+    ∙ sym (append_assoc (flat_map (told_at json before b) ps) (told_from json ps (before ++ b ∷ []) acts) (flat_map (told_at json (before ++ b ∷ acts) a) ps))
 
-pub told_more : (ps : List Prog) (acts : List Act) (a : Act) → told ps (acts ++ a ∷ []) ≡ told ps acts ++ flat_map (told_at acts a) ps
-told_more ps acts a = told_from_more ps [] acts a
+pub told_more : (json : Bool) (ps : List Prog) (acts : List Act) (a : Act) → told json ps (acts ++ a ∷ []) ≡ told json ps acts ++ flat_map (told_at json acts a) ps
+told_more json ps acts a = told_from_more json ps [] acts a
 
 -- ---- what came
 

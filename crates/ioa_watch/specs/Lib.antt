@@ -5,6 +5,7 @@ pub mod Placed
 pub mod Watchers
 pub mod AsMonitors
 pub mod AsSubjects
+pub mod Json
 pub mod Streams
 pub mod Listening
 pub mod Streaming

@@ -14,17 +14,18 @@ abbrev pub HaveHeard : List Prog → List Act → List Watcher → Type 0
 HaveHeard ps acts ws = AllZip (λ p w. HasHeard p acts w) ps ws
 
 -- these lines came, and told these actions, which all have heard
-pub record HasCome (types : Table) (ps : List Prog) (first : Bool) (ls : List (List ℕ)) (acts : List Act) (s : Stream) : Type 0 where
+pub record HasCome (json : Bool) (types : Table) (ps : List Prog) (first : Bool) (ls : List (List ℕ)) (acts : List Act) (s : Stream) : Type 0 where
   pub came : Came types ps first ls acts
   pub heard : HaveHeard ps acts s.watchers.items
   pub types_are : s.listener.types.now ≡ types
   pub first_is : s.first ≡ first
+  pub json_is : s.json ≡ json
 
 -- one line more came, and this is told of it
-pub record TakesLine (types : Table) (ps : List Prog) (first : Bool) (ls : List (List ℕ)) (acts : List Act) (line news : List ℕ) (s : Stream) : Type 0 where
+pub record TakesLine (json : Bool) (types : Table) (ps : List Prog) (first : Bool) (ls : List (List ℕ)) (acts : List Act) (line news : List ℕ) (s : Stream) : Type 0 where
   pub more : List Act
-  pub come : HasCome types ps first (ls ++ line ∷ []) (acts ++ more) s
-  pub news_are : told ps (acts ++ more) ≡ told ps acts ++ news
+  pub come : HasCome json types ps first (ls ++ line ∷ []) (acts ++ more) s
+  pub news_are : told json ps (acts ++ more) ≡ told json ps acts ++ news
 
 -- a watcher that refused something
 abbrev pub has_refused : Watcher → Bool

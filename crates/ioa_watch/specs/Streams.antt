@@ -12,6 +12,7 @@ use Rattle.ioa_compile.specs.Programs.{Prog}
 use Rattle.ioa_system.specs.Endings.{ending_text}
 use Rattle.ioa_log.specs.declared.failure.LogErr.{LogErr}
 use Rattle.ioa_json.specs.Says.{IsJson, text_at}
+use Rattle.ioa_watch.specs.Json.{ending_json}
 use Rattle.ioa_watch.specs.Names.{names_of}
 use Rattle.ioa_watch.specs.Watchers.{news, refused_by}
 
@@ -53,28 +54,33 @@ IsNoLine types known line = (d : Data) × IsJson line d × ((a : Act) → TellsA
 abbrev pub known_by : List Prog → Name → Bool
 known_by ps x = list_any (λ p. contains (names_of p.members) x) ps
 
-abbrev pub refusal_line : Name → Option Ending → List ℕ
-refusal_line x None = []
-refusal_line x (Some e) = x ++ (codes ": " ++ (ending_text e ++ 10 ∷ []))
+-- a line of what a specification tells, told as an object or not
+abbrev pub verdict_line : Bool → Name → List ℕ → List ℕ → List ℕ
+verdict_line true x text object = codes "{\"specification\":\"" ++ (x ++ (codes "\",\"verdict\":" ++ (object ++ codes "}\n")))
+verdict_line false x text object = x ++ (codes ": " ++ (text ++ 10 ∷ []))
 
-abbrev pub accepted_line : Name → Option Ending → List ℕ
-accepted_line x None = x ++ codes ": ok\n"
-accepted_line x (Some e) = []
+abbrev pub refusal_line : Bool → Name → Option Ending → List ℕ
+refusal_line json x None = []
+refusal_line json x (Some e) = verdict_line json x (ending_text e) (ending_json e)
+
+abbrev pub accepted_line : Bool → Name → Option Ending → List ℕ
+accepted_line json x None = verdict_line json x (codes "ok") (codes "\"ok\"")
+accepted_line json x (Some e) = []
 
 -- of an action that comes after others: a line of each specification that refuses it
-abbrev pub told_at : List Act → Act → Prog → List ℕ
-told_at before a p = refusal_line p.name (news (refused_by p before) (refused_by p (before ++ a ∷ [])))
+abbrev pub told_at : Bool → List Act → Act → Prog → List ℕ
+told_at json before a p = refusal_line json p.name (news (refused_by p before) (refused_by p (before ++ a ∷ [])))
 
-abbrev pub told_from : List Prog → List Act → List Act → List ℕ
-told_from ps before [] = []
-told_from ps before (a ∷ acts) = flat_map (told_at before a) ps ++ told_from ps (before ++ a ∷ []) acts
+abbrev pub told_from : Bool → List Prog → List Act → List Act → List ℕ
+told_from json ps before [] = []
+told_from json ps before (a ∷ acts) = flat_map (told_at json before a) ps ++ told_from json ps (before ++ a ∷ []) acts
 
-abbrev pub told : List Prog → List Act → List ℕ
-told ps acts = told_from ps [] acts
+abbrev pub told : Bool → List Prog → List Act → List ℕ
+told json ps acts = told_from json ps [] acts
 
 -- where the stream ends: a line of each that refused nothing
-abbrev pub accepted : List Prog → List Act → List ℕ
-accepted ps acts = flat_map (λ p. accepted_line p.name (refused_by p acts)) ps
+abbrev pub accepted : Bool → List Prog → List Act → List ℕ
+accepted json ps acts = flat_map (λ p. accepted_line json p.name (refused_by p acts)) ps
 
 -- nothing more can be told: all refused something, or one did, where the first refusal is enough
 abbrev pub is_over : Bool → List Prog → List Act → Bool
@@ -94,15 +100,15 @@ pub record Came (types : Table) (ps : List Prog) (first : Bool) (ls : List (List
   pub going : (n : ℕ) → n < length ls → is_over first ps (joined (take n items)) ≡ false
 
 -- the stream is watched until it is over, or to its end, and this is told
-pub record IsWatched (types : Table) (ps : List Prog) (first : Bool) (bytes text : List ℕ) (acts : List Act) : Type 0 where
+pub record IsWatched (json : Bool) (types : Table) (ps : List Prog) (first : Bool) (bytes text : List ℕ) (acts : List Act) : Type 0 where
   pub before : List (List ℕ)
   pub after : List (List ℕ)
   pub parted : lines bytes ≡ before ++ after
   pub came : Came types ps first before acts
-  pub all : ((is_over first ps acts ≡ true) × (text ≡ told ps acts)) ⊎ ((is_over first ps acts ≡ false) × (after ≡ []) × (text ≡ told ps acts ++ accepted ps acts))
+  pub all : ((is_over first ps acts ≡ true) × (text ≡ told json ps acts)) ⊎ ((is_over first ps acts ≡ false) × (after ≡ []) × (text ≡ told json ps acts ++ accepted json ps acts))
 
 -- the line of this number is read, since it is not over, and this is wrong with it; what is told of those before it is written
-pub record IsWrong (types : Table) (ps : List Prog) (first : Bool) (bytes : List ℕ) (old new : Option (List ℕ)) (wrong : List ℕ → Type 0) (n : ℕ) : Type 0 where
+pub record IsWrong (json : Bool) (types : Table) (ps : List Prog) (first : Bool) (bytes : List ℕ) (old new : Option (List ℕ)) (wrong : List ℕ → Type 0) (n : ℕ) : Type 0 where
   pub before : List (List ℕ)
   pub line : List ℕ
   pub after : List (List ℕ)
@@ -112,27 +118,27 @@ pub record IsWrong (types : Table) (ps : List Prog) (first : Bool) (bytes : List
   pub going : is_over first ps acts ≡ false
   pub wrong_is : wrong line
   pub number : n ≡ length before + 1
-  pub written : Appends old new (told ps acts)
+  pub written : Appends old new (told json ps acts)
 
 -- what is told of some of the lines, and at the end of them all, is written, or a beginning of it
-pub record IsBegun (types : Table) (ps : List Prog) (first : Bool) (bytes : List ℕ) (old new : Option (List ℕ)) : Type 0 where
+pub record IsBegun (json : Bool) (types : Table) (ps : List Prog) (first : Bool) (bytes : List ℕ) (old new : Option (List ℕ)) : Type 0 where
   pub before : List (List ℕ)
   pub after : List (List ℕ)
   pub parted : lines bytes ≡ before ++ after
   pub acts : List Act
   pub came : Came types ps first before acts
   pub text : List ℕ
-  pub text_is : (text ≡ told ps acts) ⊎ ((is_over first ps acts ≡ false) × (after ≡ []) × (text ≡ told ps acts ++ accepted ps acts))
+  pub text_is : (text ≡ told json ps acts) ⊎ ((is_over first ps acts ≡ false) × (after ≡ []) × (text ≡ told json ps acts ++ accepted json ps acts))
   pub count : ℕ
   pub written : Appends old new (take count text)
 
 -- why no more of the stream is watched, by the error
-abbrev pub IsFailed : Table → List Prog → Bool → List ℕ → Option (List ℕ) → Option (List ℕ) → LogErr → Type 0
-IsFailed types ps first bytes old new (LogErr.NotJson n) = IsWrong types ps first bytes old new IsNotJson n
-IsFailed types ps first bytes old new (LogErr.BadEntry n) = IsWrong types ps first bytes old new (IsNoLine types (known_by ps)) n
-IsFailed types ps first bytes old new (LogErr.WrongOwner n) = ⊥
-IsFailed types ps first bytes old new (LogErr.Diverges n) = ⊥
-IsFailed types ps first bytes old new LogErr.NoEnd = ⊥
-IsFailed types ps first bytes old new LogErr.AfterEnd = ⊥
-IsFailed types ps first bytes old new LogErr.Io = IsBegun types ps first bytes old new
-IsFailed types ps first bytes old new LogErr.OutOfMemory = IsBegun types ps first bytes old new
+abbrev pub IsFailed : Bool → Table → List Prog → Bool → List ℕ → Option (List ℕ) → Option (List ℕ) → LogErr → Type 0
+IsFailed json types ps first bytes old new (LogErr.NotJson n) = IsWrong json types ps first bytes old new IsNotJson n
+IsFailed json types ps first bytes old new (LogErr.BadEntry n) = IsWrong json types ps first bytes old new (IsNoLine types (known_by ps)) n
+IsFailed json types ps first bytes old new (LogErr.WrongOwner n) = ⊥
+IsFailed json types ps first bytes old new (LogErr.Diverges n) = ⊥
+IsFailed json types ps first bytes old new LogErr.NoEnd = ⊥
+IsFailed json types ps first bytes old new LogErr.AfterEnd = ⊥
+IsFailed json types ps first bytes old new LogErr.Io = IsBegun json types ps first bytes old new
+IsFailed json types ps first bytes old new LogErr.OutOfMemory = IsBegun json types ps first bytes old new

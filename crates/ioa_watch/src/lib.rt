@@ -7,6 +7,7 @@ mod watcher;
 mod watching;
 
 // Streams of lines.
+mod endings;
 mod lines;
 mod streams;
 mod verdicts;
@@ -14,6 +15,7 @@ mod verdicts;
 // Laws.
 mod laws;
 
+pub use endings::ending_members;
 pub use laws::{counted_by_names, refused_as_monitored, streams_are_the_subjects};
 pub use streams::watch;
 pub use watcher::Watcher;

@@ -1,17 +1,20 @@
 -- What a run of the program comes to: what is asked, what is written, what is told, and the exit status.
-use Rattle.std.specs.Prelude.{◌≡◌, ℕ, ◌⊎◌, ◌++◌, ◌∷◌, ◌<◌, ◌≤◌, Bool, true, false, List, [], length, Option, Some, None}
+use Rattle.std.specs.Prelude.{◌≡◌, ℕ, ◌⊎◌, ◌++◌, ◌∷◌, ◌<◌, ◌≤◌, Bool, true, false, List, [], length, Option, Some, None, IfSome}
 use Rattle.clap.specs.Words.{IsAmong, Text, fault_of, subcommand_of}
 use Rattle.clap.specs.declared.error.kind.ErrorKind.{ErrorKind}
 use Rattle.clap.specs.declared.error.kind.ErrorKind.TheVariants as kinds
 use Rattle.ioa_log.specs.declared.failure.LogErr.{LogErr}
 use Rattle.ioa_value.specs.Actions.{Name}
 use Rattle.ioa_serving.specs.declared.failure.Failure.{Failure}
+use Rattle.ioa_request.specs.declared.cut.Cut.{Cut}
 use Rattle.ioa_request.specs.declared.request.Request.{Request}
 use Rattle.ioa_serving.specs.declared.status.Status.{Status}
 use Rattle.ioa_request.specs.CommandLine.{ioac_app, is_explained, HasNoFault, IsAsked}
+use Rattle.ioa_request.specs.Cuts.{cut_of}
 use Rattle.ioac.specs.Refused.{IsFailureRemark}
 use Rattle.ioac.specs.Remarks.{IsRemark}
-use Rattle.ioa_serving.specs.Devices.{Change, Passed, Seen, Untouched, World, Wrote, onward, until}
+use Rattle.ioa_serving.specs.Cuts.{cut_text}
+use Rattle.ioa_serving.specs.Devices.{Change, Failed, Passed, Seen, Untouched, World, Wrote, onward, until, world}
 use Rattle.ioa_serving.specs.Serving.{IsRunning, IsServed, IsUnserved}
 use Rattle.ioac.specs.Telling.{IsCut, IsPut, IsReported, IsShort, IsTold, unasked_text}
 
@@ -64,6 +67,31 @@ IsAnsweredAs true w request status =
     × IsReported e wants (until w.errors between) answered
     × IsFollowed (IsUnservedRemark w.files.held w.files.lacked request e) answered (until w.errors between) (onward w.errors between) status))
 
+-- ---- what is taken of standard input
+
+-- a text that is at hand, in place of a device: none of its calls fails
+abbrev pub at_hand : List ℕ → Option (List ℕ) → Change
+at_hand text left = record { before = record { bytes = Some text; failures = 0 }; after = record { bytes = left; failures = 0 } }
+
+-- the request is answered of this text in place of standard input
+abbrev pub IsAnsweredOver : List ℕ → Bool → World → Request → Status → Type 0
+IsAnsweredOver text explained w request status = (left : Option (List ℕ)) × IsAnsweredAs explained (world w.files (at_hand text left) w.output w.errors) request status
+
+-- why nothing is taken: standard input failed, or memory was short
+abbrev pub IsTakingErr : Type 0 → LogErr → Type 0
+IsTakingErr failed e = ((e ≡ LogErr.Io) × failed) ⊎ (e ≡ LogErr.OutOfMemory)
+
+-- that is told, and nothing is written
+abbrev pub IsUntaken : World → Status → Type 0
+IsUntaken w status = Untouched w.output × ((e : LogErr) × IsTakingErr (Failed w.input) e × IsReported (Failure.List e) [] w.errors status)
+
+-- The request is answered of standard input; or, where no more is asked for, of what is taken of it. That is taken first, so that where
+-- this fails the files are not read.
+abbrev pub IsAnsweredOf : Option Cut → Bool → World → Request → Status → Type 0
+IsAnsweredOf None explained w request status = IsAnsweredAs explained w request status
+IsAnsweredOf (Some cut) explained w request status =
+    ((text : List ℕ) × IfSome w.input.before.bytes (λ xs. text ≡ cut_text cut xs) × IsAnsweredOver text explained w request status) ⊎ IsUntaken w status
+
 -- of a parse that gives no request, by what it tells
 abbrev pub usage_status : ErrorKind → Status
 usage_status kinds.DisplayHelp = Status.Done
@@ -112,4 +140,4 @@ IsUnasked words output errors status =
 abbrev pub IsCommand : List Text → World → Status → Type 0
 IsCommand words w status =
     IsUnasked words w.output w.errors status
-    ⊎ ((request : Request) × IsAsked words request × IsAnsweredAs (is_explained (subcommand_of ioac_app words)) w request status)
+    ⊎ ((request : Request) × IsAsked words request × IsAnsweredOf (cut_of (subcommand_of ioac_app words)) (is_explained (subcommand_of ioac_app words)) w request status)

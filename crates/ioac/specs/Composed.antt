@@ -28,14 +28,17 @@ composition_of request = option_and_then (λ p. p.1) (source_of request)
 
 -- the specifications that a watch names, or runs by many seeds
 abbrev pub specifications_of : Request → List Name
-specifications_of (Request.Watch file compositions first counts) = texts compositions.now
+specifications_of (Request.Watch file compositions first counts json) = texts compositions.now
 specifications_of (Request.Replay file composition) = []
 specifications_of (Request.ReplayStates file composition) = []
 specifications_of (Request.ReplayLog file composition) = []
 specifications_of (Request.ReplayLogStates file composition) = []
 specifications_of (Request.ReplayInvariants file composition) = []
 specifications_of (Request.Log file composition) = []
+specifications_of (Request.LogByLog file composition) = []
 specifications_of (Request.Monitor file composition) = []
+specifications_of (Request.MonitorJson file composition) = []
+specifications_of (Request.StrictMonitor file composition json) = []
 specifications_of (Request.Chart file composition selection) = []
 specifications_of (Request.Graph file composition) = []
 specifications_of (Request.Run settings) = []

@@ -11,6 +11,7 @@ use Rattle.ioa_tree.specs.Hosts.{Hosted}
 use Rattle.ioa_compose.specs.declared.composition.Composition.{Composition}
 use Rattle.ioa_compose.specs.Held.{composed_of}
 use Rattle.ioa_compose.specs.Simulates.{Simulates}
+use Rattle.ioa_compile.specs.Implements.{Implements}
 use Rattle.ioa_compile.specs.Programs.{Prog}
 use Rattle.ioa_object.specs.declared.failure.ObjErr.{ObjErr}
 use Rattle.ioa_system.specs.Logs.{Logged, actions_of, logged}
@@ -32,6 +33,7 @@ use Rattle.ioa_serving.specs.declared.failure.Failure.{Failure}
 use Rattle.ioa_serving.specs.declared.run.Ran.{Ran}
 use Rattle.ioa_serving.specs.Failing.{IsRefusedGiven, IsRefusedSource}
 use Rattle.ioa_serving.specs.Headline.{Declares, IsObjectOf, begins_object}
+use Rattle.ioa_serving.specs.LogCounts.{monitor_counts}
 use Rattle.ioa_serving.specs.Logs.{performed_in}
 
 -- ---- the source that is looked at once more
@@ -48,8 +50,11 @@ source_of (Request.ReplayLog file composition) = Some (file.now, option_copied c
 source_of (Request.ReplayLogStates file composition) = Some (file.now, option_copied composition)
 source_of (Request.ReplayInvariants file composition) = Some (file.now, option_copied composition)
 source_of (Request.Log file composition) = Some (file.now, option_copied composition)
+source_of (Request.LogByLog file composition) = Some (file.now, option_copied composition)
 source_of (Request.Monitor file composition) = Some (file.now, option_copied composition)
-source_of (Request.Watch file compositions first counts) = Some (file.now, option_copied (slice_get compositions.now 0))
+source_of (Request.MonitorJson file composition) = Some (file.now, option_copied composition)
+source_of (Request.StrictMonitor file composition json) = Some (file.now, option_copied composition)
+source_of (Request.Watch file compositions first counts json) = Some (file.now, option_copied (slice_get compositions.now 0))
 source_of (Request.Chart file composition selection) = Some (file.now, option_copied composition)
 source_of (Request.Graph file composition) = Some (file.now, option_copied composition)
 source_of (Request.Run settings) = Some (settings.file.now, option_copied settings.composition)
@@ -108,6 +113,11 @@ TellsListed t acts before after = (told : List ℕ) × TellsEnd t (list_line t) 
 abbrev pub TellsListEnd : Told → List ℕ → List ℕ → Type 0
 TellsListEnd t before after = OfList t (TellsListed t) before after
 
+-- of what a log tells to be performed how many actions a program that means the composition takes, by its names; how many it has, and what came of them
+abbrev pub TellsCounted : Told → List Act → List ℕ → List ℕ → Type 0
+TellsCounted t acts before after =
+    (p : Prog) × Implements p (composed_of t.composition.now) × OfHosts t (λ h. TellsMonitored t h acts) (before ++ monitor_counts p acts) after
+
 abbrev pub TellsLogEnd : Told → List ℕ → List ℕ → Type 0
 TellsLogEnd t before after = OfLog t (λ log. TellsEnd t (log_line t) (actions_of log)) before after
 
@@ -132,10 +142,13 @@ Explains (Request.ReplayStates file composition) (Ended.Served status) t before 
 Explains (Request.Log file composition) (Ended.Served status) t before after = TellsListEnd t before after
 Explains (Request.ReplayLog file composition) (Ended.Served status) t before after = TellsLogEnd t before after
 Explains (Request.ReplayLogStates file composition) (Ended.Served status) t before after = TellsLogEnd t before after
+Explains (Request.LogByLog file composition) (Ended.Served status) t before after = TellsLogEnd t before after
 Explains (Request.Chart file composition selection) (Ended.Served status) t before after = TellsLogEnd t before after
 Explains (Request.ReplayInvariants file composition) (Ended.Served status) t before after = OfLog t (λ log. OfHosts t (λ h. TellsInspected t h log)) before after
-Explains (Request.Monitor file composition) (Ended.Served status) t before after = OfLog t (λ log. OfHosts t (λ h. TellsMonitored t h (performed_in log))) before after
-Explains (Request.Watch file compositions first counts) (Ended.Served status) t before after = after ≡ before
+Explains (Request.Monitor file composition) (Ended.Served status) t before after = OfLog t (λ log. TellsCounted t (performed_in log)) before after
+Explains (Request.MonitorJson file composition) (Ended.Served status) t before after = OfLog t (λ log. TellsCounted t (performed_in log)) before after
+Explains (Request.StrictMonitor file composition json) (Ended.Served status) t before after = OfLog t (λ log. TellsCounted t (performed_in log)) before after
+Explains (Request.Watch file compositions first counts json) (Ended.Served status) t before after = after ≡ before
 Explains (Request.Run settings) (Ended.Served status) t before after = TellsRunEnd status t before after
 Explains (Request.Seeds seeds) (Ended.Served status) t before after = after ≡ before
 Explains (Request.Graph file composition) (Ended.Served status) t before after = after ≡ before
@@ -147,9 +160,12 @@ Explains Request.Library (Ended.Served status) t before after = after ≡ before
 
 -- ---- of an object, which has no source, and whose variables have no names
 
--- of the log that was heard how many of its actions the program has, and of the first that it does not perform why not
+-- of the log that was heard how many of its actions the program takes, by its names, how many it has, and of the first that it does not perform why not
+abbrev pub TellsObjectCounted : Prog → List ℕ → List Act → List ℕ → List ℕ → Type 0
+TellsObjectCounted p input acts before after = TellsObject p input acts (before ++ monitor_counts p acts) after
+
 abbrev pub TellsObjectLog : Prog → List ℕ → List ℕ → List ℕ → Type 0
-TellsObjectLog p input before after = OfLogOver p.types input (λ log. TellsObject p input (performed_in log)) before after
+TellsObjectLog p input before after = OfLogOver p.types input (λ log. TellsObjectCounted p input (performed_in log)) before after
 
 abbrev pub TellsProgram : Option Prog → List ℕ → List ℕ → List ℕ → Type 0
 TellsProgram None input before after = after ≡ before
@@ -162,10 +178,13 @@ TellsObjectMonitor object name input before after = (p : Option Prog) × IsProgr
 -- of a monitor alone, where a request was served
 abbrev pub TellsOfObject : Request → List ℕ → Option Name → List ℕ → List ℕ → List ℕ → Type 0
 TellsOfObject (Request.Monitor file composition) object name input before after = TellsObjectMonitor object name input before after
-TellsOfObject (Request.Watch file compositions first counts) object name input before after = after ≡ before
+TellsOfObject (Request.MonitorJson file composition) object name input before after = TellsObjectMonitor object name input before after
+TellsOfObject (Request.StrictMonitor file composition json) object name input before after = TellsObjectMonitor object name input before after
+TellsOfObject (Request.Watch file compositions first counts json) object name input before after = after ≡ before
 TellsOfObject (Request.Replay file composition) object name input before after = after ≡ before
 TellsOfObject (Request.ReplayStates file composition) object name input before after = after ≡ before
 TellsOfObject (Request.Log file composition) object name input before after = after ≡ before
+TellsOfObject (Request.LogByLog file composition) object name input before after = after ≡ before
 TellsOfObject (Request.ReplayLog file composition) object name input before after = after ≡ before
 TellsOfObject (Request.ReplayLogStates file composition) object name input before after = after ≡ before
 TellsOfObject (Request.ReplayInvariants file composition) object name input before after = after ≡ before
@@ -215,8 +234,11 @@ IsChecking (Request.ReplayLog file composition) = ⊥
 IsChecking (Request.ReplayLogStates file composition) = ⊥
 IsChecking (Request.ReplayInvariants file composition) = ⊥
 IsChecking (Request.Log file composition) = ⊥
+IsChecking (Request.LogByLog file composition) = ⊥
 IsChecking (Request.Monitor file composition) = ⊥
-IsChecking (Request.Watch file compositions first counts) = ⊥
+IsChecking (Request.MonitorJson file composition) = ⊥
+IsChecking (Request.StrictMonitor file composition json) = ⊥
+IsChecking (Request.Watch file compositions first counts json) = ⊥
 IsChecking (Request.Chart file composition selection) = ⊥
 IsChecking (Request.Graph file composition) = ⊥
 IsChecking (Request.Run settings) = ⊥

@@ -114,14 +114,19 @@ abbrev pub bad_seeds_text : Text → Option Text → List ℕ
 bad_seeds_text word turns =
     if is_some (range_in word) then bad_seeds_turns_text turns else invalid_value_text word (codes "--seeds <A..B>") seeds_wanted
 
--- of specifications of a single run
-abbrev pub missing_seeds_text : List ℕ
-missing_seeds_text = codes "error: the argument '--monitor <SPEC>' needs '--seeds <A..B>'" ++ try_help
+-- what stands of runs by many seeds without their numbers: specifications, or else invariants, or a file for a log
+abbrev pub seeds_option : List Row → List ℕ
+seeds_option rows =
+    if is_some (first_of (codes "monitor") rows) then codes "--monitor <SPEC>" else if is_set (codes "invariants") rows then codes "--invariants" else codes "--keep <KFILE>"
+
+-- of what a single run has not
+abbrev pub missing_seeds_text : List Row → List ℕ
+missing_seeds_text rows = codes "error: the argument '" ++ (seeds_option rows ++ (codes "' needs '--seeds <A..B>'" ++ try_help))
 
 -- of a run, of runs by many seeds, or of what these alone have
 abbrev pub bad_run_text_by : Option Text → List Row → List ℕ
 bad_run_text_by None rows =
-    if asks_seeds rows then missing_seeds_text
+    if asks_seeds rows then missing_seeds_text rows
     else bad_settings_text (first_of (codes "turns") rows) (first_of (codes "seed") rows) (first_of (codes "words") rows)
 bad_run_text_by (Some word) rows = bad_seeds_text word (first_of (codes "turns") rows)
 
@@ -152,10 +157,16 @@ abbrev pub bad_request_text : Option Text → Bool → List ℕ
 bad_request_text None both = bad_replay_text both
 bad_request_text (Some word) both = unknown_code_text word known_codes
 
+-- of a bound up to which a list or a log is taken that is no number, or else of these
+abbrev pub bad_taken_text : Option Text → Option Text → Bool → List ℕ
+bad_taken_text None first both = bad_request_text first both
+bad_taken_text (Some word) first both =
+    if is_some (bound_in (Some word)) then bad_request_text first both else invalid_value_text word (codes "--until <N>") (codes "a whole number of 64 bits")
+
 -- of a command line without a fault that asks for nothing, by its subcommand and the values of this
 abbrev pub unasked_text : Option (Text × List Row) → List ℕ
 unasked_text None = missing_log_text
 unasked_text (Some found) =
     if bytes_eq found.0 (codes "run") then bad_run_text found.1
     else if bytes_eq found.0 (codes "chart") then bad_bounds_text (first_of (codes "from") found.1) (first_of (codes "to") found.1)
-    else bad_request_text (first_of (codes "TEXT") found.1) (asks_both found.1)
+    else bad_taken_text (first_of (codes "until") found.1) (first_of (codes "TEXT") found.1) (asks_both found.1)

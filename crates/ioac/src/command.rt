@@ -1,10 +1,10 @@
 //! The command, from the words of a command line and its devices to an exit status.
 
-ghost use Rattle.std.specs.Prelude.{◌≡◌, ℕ, List, true, map, IfOk, IfErr};
+ghost use Rattle.std.specs.Prelude.{◌≡◌, ℕ, List, None, Some, true, map, IfOk, IfErr};
 ghost use Rattle.ioa_log.specs.Failing.{FailedOnceAtMost};
 ghost use Rattle.clap.specs.Words.{Text, subcommand_of, subcommand_rows_of};
 ghost use Rattle.ioa_request.specs.CommandLine.{HasNoFault, IsAsked, IsAskedBy, ioac_app};
-ghost use Rattle.ioac.specs.Commands.{AreWantsOf, IsAnswered, IsAnsweredAs, IsFinished, IsCommand};
+ghost use Rattle.ioac.specs.Commands.{AreWantsOf, IsAnswered, IsAnsweredAs, IsAnsweredOf, IsFinished, IsCommand};
 ghost use Rattle.ioa_serving.specs.Serving.{IsReading, IsSaving, IsServed, IsUnserved, reports_of, wants_of};
 ghost use Rattle.ioa_serving.specs.Devices.{change, files, world};
 ghost use Rattle.ioac.specs.Telling.{IsReported};
@@ -21,8 +21,8 @@ use crate::telling::{put, reported};
 use crate::usage::{told, told_unasked};
 use clap::ArgMatches;
 use ioa_log::{Device, InputDevice, OutputDevice};
-use ioa_request::{Request, is_explained, parse, read_request};
-use ioa_serving::{Failure, Ran, Served, Status, Store};
+use ioa_request::{Cut, Request, is_explained, parse, read_cut, read_request};
+use ioa_serving::{AtHand, Failure, Ran, Served, Status, Store, cut_text};
 use std::alloc::Global;
 use std::convert::AsStr;
 use std::sync::Wait;
@@ -34,7 +34,7 @@ use std::time::Clock;
 ///
 /// What is wrong goes to `errors`, and nothing is written then, or, where a device failed, no more than a beginning. The status is that of
 /// `Unable` where `errors` failed, too. Any other status means that no device failed in this call. A file is changed only where it is asked
-/// for: by an object that stands in it whole. `input` is read only where a list or a log is asked for.
+/// for: by an object or a log that stands in it whole. `input` is read only where a list or a log is asked for.
 pub fn command<
     H: Threads + Wait + Clock + Sync,
     S: AsStr,
@@ -123,9 +123,82 @@ fn perform_read<
     match read_request(matches) {
         Some(asked) => {
             let explains = is_explained(matches);
-            answer_as(rt, alloc, &asked, explains, store, input, output, errors)
+            let cut = read_cut(matches);
+            answer_of(
+                rt, alloc, &asked, explains, cut, store, input, output, errors,
+            )
         }
         None => told_unasked(alloc, matches, errors),
+    }
+}
+
+/// Does what is asked, of standard input or, where no more is to be taken, of a beginning of it.
+fn answer_of<
+    H: Threads + Wait + Clock + Sync,
+    F: Store,
+    R: InputDevice,
+    W: OutputDevice,
+    E: OutputDevice,
+>(
+    rt: &H,
+    alloc: Global,
+    asked: &Request<'_>,
+    explains: bool,
+    cut: Option<Cut>,
+    store: &mut F,
+    input: &mut Tee<R>,
+    output: &mut W,
+    errors: &mut E,
+) -> Status
+    ensures answers { IsAnsweredOf cut explains (world (files F.holds F.lacks F.begins F.bars F.saves store.old store.new)
+        (change R.remaining R.failure_count input.old.inner input.new.inner) (change W.contents W.failure_count output.old output.new)
+        (change E.contents E.failure_count errors.old errors.new)) asked.now result }
+    ensures kept { (IsSaving asked.now → ⊥) → store.new ≡ store.old }
+    ensures unread { cut ≡ None → (IsReading asked.now → ⊥) → input.new.inner ≡ input.old.inner }
+    ensures passed { (result ≡ statuses.Unable → ⊥) → (R.failure_count input.new.inner ≡ R.failure_count input.old.inner) × (W.failure_count output.new ≡ W.failure_count output.old) × (E.failure_count errors.new ≡ E.failure_count errors.old) }
+    ensures once { FailedOnceAtMost (R.failure_count input.old.inner) (R.failure_count input.new.inner) × FailedOnceAtMost (W.failure_count output.old) (W.failure_count output.new) × FailedOnceAtMost (E.failure_count errors.old) (E.failure_count errors.new) }
+{
+    match cut {
+        Some(cut) => answer_cut(
+            rt, alloc, asked, explains, cut, store, input, output, errors,
+        ),
+        None => answer_as(rt, alloc, asked, explains, store, input, output, errors),
+    }
+}
+
+/// Takes a beginning of standard input, and does what is asked of that. Where it cannot be taken, that is told, and nothing else is done.
+fn answer_cut<
+    H: Threads + Wait + Clock + Sync,
+    F: Store,
+    R: InputDevice,
+    W: OutputDevice,
+    E: OutputDevice,
+>(
+    rt: &H,
+    alloc: Global,
+    asked: &Request<'_>,
+    explains: bool,
+    cut: Cut,
+    store: &mut F,
+    input: &mut Tee<R>,
+    output: &mut W,
+    errors: &mut E,
+) -> Status
+    ensures answers { IsAnsweredOf (Some cut) explains (world (files F.holds F.lacks F.begins F.bars F.saves store.old store.new)
+        (change R.remaining R.failure_count input.old.inner input.new.inner) (change W.contents W.failure_count output.old output.new)
+        (change E.contents E.failure_count errors.old errors.new)) asked.now result }
+    ensures kept { (IsSaving asked.now → ⊥) → store.new ≡ store.old }
+    ensures passed { (result ≡ statuses.Unable → ⊥) → (R.failure_count input.new.inner ≡ R.failure_count input.old.inner) × (W.failure_count output.new ≡ W.failure_count output.old) × (E.failure_count errors.new ≡ E.failure_count errors.old) }
+    ensures once { FailedOnceAtMost (R.failure_count input.old.inner) (R.failure_count input.new.inner) × FailedOnceAtMost (W.failure_count output.old) (W.failure_count output.new) × FailedOnceAtMost (E.failure_count errors.old) (E.failure_count errors.new) }
+{
+    match cut_text(alloc, cut, input) {
+        Ok(text) => {
+            let mut taken = Tee::new(AtHand::new(text.as_slice()));
+            answer_as(
+                rt, alloc, asked, explains, store, &mut taken, output, errors,
+            )
+        }
+        Err(error) => reported(alloc, &Failure::List(error), &None, errors),
     }
 }
 

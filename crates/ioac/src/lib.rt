@@ -15,8 +15,8 @@ mod telling;
 
 pub use ioa_request::{Code, Topic, explanation, explanations};
 pub use ioa_serving::{
-    Status, Store, StoreErr, compile_text, is_object, objects_do_as_their_sources,
-    objects_run_as_their_sources, one_composition,
+    Status, Store, StoreErr, compile_text, cuts_are_beginnings, is_object,
+    objects_do_as_their_sources, objects_run_as_their_sources, one_composition,
 };
 pub use tees::Tee;
 pub use telling::told_unread;

@@ -17,9 +17,10 @@ use ioa_request::{Request, Selection, Topic};
 use ioa_serving::explain::explain;
 use ioa_serving::{
     Failure, Finding, Ran, Served, Status, Store, chart_log_text, check_text, compile_file,
-    dump_object, graph_text, log_list_text, monitor_text, replay_invariants_text,
+    dump_object, graph_text, log_list_text, log_log_text, monitor_text, replay_invariants_text,
     replay_log_states_text, replay_log_text, replay_states_text, replay_text, run_file,
-    run_seeds_file, silent, status_of, watch_text, write_library,
+    run_seeds_file, silent, status_of, status_of_verdict, strict_monitor_text, watch_text,
+    write_library,
 };
 use ioa_system::End;
 use std::alloc::Global;
@@ -75,10 +76,26 @@ pub(crate) fn serve<H: Threads + Wait + Clock + Sync, F: Store, R: InputDevice, 
             log(alloc, file, *composition, store, input, output),
             None,
         ),
+        Request::LogByLog { file, composition } => (
+            log_by_log(alloc, file, *composition, store, input, output),
+            None,
+        ),
         Request::Run(settings) => run_file(rt, alloc, settings, store, output),
         Request::Seeds(seeds) => (run_seeds_file(alloc, seeds, store, output), None),
         Request::Monitor { file, composition } => (
             monitor(alloc, file, *composition, store, input, output),
+            None,
+        ),
+        Request::MonitorJson { file, composition } => (
+            monitor_json(alloc, file, *composition, store, input, output),
+            None,
+        ),
+        Request::StrictMonitor {
+            file,
+            composition,
+            json,
+        } => (
+            monitor_strictly(alloc, file, *composition, *json, store, input, output),
             None,
         ),
         Request::Watch {
@@ -86,6 +103,7 @@ pub(crate) fn serve<H: Threads + Wait + Clock + Sync, F: Store, R: InputDevice, 
             compositions,
             first,
             counts,
+            json,
         } => (
             watch(
                 alloc,
@@ -93,6 +111,7 @@ pub(crate) fn serve<H: Threads + Wait + Clock + Sync, F: Store, R: InputDevice, 
                 compositions,
                 *first,
                 *counts,
+                *json,
                 store,
                 input,
                 output,
@@ -238,6 +257,25 @@ fn log<F: Store, R: InputDevice, W: OutputDevice>(
     Ok(silent(status_of(end)))
 }
 
+/// Writes the log on standard input again.
+fn log_by_log<F: Store, R: InputDevice, W: OutputDevice>(
+    alloc: Global,
+    file: &str,
+    composition: Option<&str>,
+    store: &F,
+    input: &mut R,
+    output: &mut W,
+) -> Result<Served, Failure>
+    ensures served { IfOk result (λ s. Serves (read_only F.holds F.lacks store.now) (requests.LogByLog file.entry composition.entry) (change R.remaining R.failure_count input.old input.new) (change W.contents W.failure_count output.old output.new) s) }
+    ensures refused { IfErr result (λ e. Fails (read_only F.holds F.lacks store.now) (requests.LogByLog file.entry composition.entry) (change R.remaining R.failure_count input.old input.new) (change W.contents W.failure_count output.old output.new) e) }
+    ensures passed { (IsErrOf result (Failure.List LogErr.Io) → ⊥) → (R.failure_count input.new ≡ R.failure_count input.old) × (W.failure_count output.new ≡ W.failure_count output.old) }
+    ensures once { FailedOnceAtMost (R.failure_count input.old) (R.failure_count input.new) × FailedOnceAtMost (W.failure_count output.old) (W.failure_count output.new) }
+{
+    let text = store.load(alloc, file)?;
+    let end = log_log_text(alloc, text.as_slice(), composition, input, output)?;
+    Ok(silent(status_of(end)))
+}
+
 /// Monitors the log on standard input.
 fn monitor<F: Store, R: InputDevice, W: OutputDevice>(
     alloc: Global,
@@ -253,8 +291,48 @@ fn monitor<F: Store, R: InputDevice, W: OutputDevice>(
     ensures once { FailedOnceAtMost (R.failure_count input.old) (R.failure_count input.new) × FailedOnceAtMost (W.failure_count output.old) (W.failure_count output.new) }
 {
     let text = store.load(alloc, file)?;
-    let answer = monitor_text(alloc, text.as_slice(), composition, input, output)?;
+    let answer = monitor_text(alloc, text.as_slice(), composition, false, input, output)?;
     Ok(silent(status_of_answer(answer)))
+}
+
+/// Monitors the log on standard input, and tells the answer as a JSON object.
+fn monitor_json<F: Store, R: InputDevice, W: OutputDevice>(
+    alloc: Global,
+    file: &str,
+    composition: Option<&str>,
+    store: &F,
+    input: &mut R,
+    output: &mut W,
+) -> Result<Served, Failure>
+    ensures served { IfOk result (λ s. Serves (read_only F.holds F.lacks store.now) (requests.MonitorJson file.entry composition.entry) (change R.remaining R.failure_count input.old input.new) (change W.contents W.failure_count output.old output.new) s) }
+    ensures refused { IfErr result (λ e. Fails (read_only F.holds F.lacks store.now) (requests.MonitorJson file.entry composition.entry) (change R.remaining R.failure_count input.old input.new) (change W.contents W.failure_count output.old output.new) e) }
+    ensures passed { (IsErrOf result (Failure.List LogErr.Io) → ⊥) → (R.failure_count input.new ≡ R.failure_count input.old) × (W.failure_count output.new ≡ W.failure_count output.old) }
+    ensures once { FailedOnceAtMost (R.failure_count input.old) (R.failure_count input.new) × FailedOnceAtMost (W.failure_count output.old) (W.failure_count output.new) }
+{
+    let text = store.load(alloc, file)?;
+    let answer = monitor_text(alloc, text.as_slice(), composition, true, input, output)?;
+    Ok(silent(status_of_answer(answer)))
+}
+
+/// Monitors the log on standard input strictly.
+fn monitor_strictly<F: Store, R: InputDevice, W: OutputDevice>(
+    alloc: Global,
+    file: &str,
+    composition: Option<&str>,
+    json: bool,
+    store: &F,
+    input: &mut R,
+    output: &mut W,
+) -> Result<Served, Failure>
+    ensures served { IfOk result (λ s. Serves (read_only F.holds F.lacks store.now) (requests.StrictMonitor file.entry composition.entry json) (change R.remaining R.failure_count input.old input.new) (change W.contents W.failure_count output.old output.new) s) }
+    ensures refused { IfErr result (λ e. Fails (read_only F.holds F.lacks store.now) (requests.StrictMonitor file.entry composition.entry json) (change R.remaining R.failure_count input.old input.new) (change W.contents W.failure_count output.old output.new) e) }
+    ensures passed { (IsErrOf result (Failure.List LogErr.Io) → ⊥) → (R.failure_count input.new ≡ R.failure_count input.old) × (W.failure_count output.new ≡ W.failure_count output.old) }
+    ensures once { FailedOnceAtMost (R.failure_count input.old) (R.failure_count input.new) × FailedOnceAtMost (W.failure_count output.old) (W.failure_count output.new) }
+{
+    let text = store.load(alloc, file)?;
+    let bytes = text.as_slice();
+    let verdict = strict_monitor_text(alloc, bytes, composition, json, input, output)?;
+    Ok(silent(status_of_verdict(verdict)))
 }
 
 /// Watches the stream on standard input.
@@ -264,12 +342,13 @@ fn watch<F: Store, R: InputDevice, W: OutputDevice>(
     compositions: &[&str],
     first: bool,
     counts: bool,
+    json: bool,
     store: &F,
     input: &mut R,
     output: &mut W,
 ) -> Result<Served, Failure>
-    ensures served { IfOk result (λ s. Serves (read_only F.holds F.lacks store.now) (requests.Watch file.entry compositions.entry first counts) (change R.remaining R.failure_count input.old input.new) (change W.contents W.failure_count output.old output.new) s) }
-    ensures refused { IfErr result (λ e. Fails (read_only F.holds F.lacks store.now) (requests.Watch file.entry compositions.entry first counts) (change R.remaining R.failure_count input.old input.new) (change W.contents W.failure_count output.old output.new) e) }
+    ensures served { IfOk result (λ s. Serves (read_only F.holds F.lacks store.now) (requests.Watch file.entry compositions.entry first counts json) (change R.remaining R.failure_count input.old input.new) (change W.contents W.failure_count output.old output.new) s) }
+    ensures refused { IfErr result (λ e. Fails (read_only F.holds F.lacks store.now) (requests.Watch file.entry compositions.entry first counts json) (change R.remaining R.failure_count input.old input.new) (change W.contents W.failure_count output.old output.new) e) }
     ensures passed { (IsErrOf result (Failure.List LogErr.Io) → ⊥) → (R.failure_count input.new ≡ R.failure_count input.old) × (W.failure_count output.new ≡ W.failure_count output.old) }
     ensures once { FailedOnceAtMost (R.failure_count input.old) (R.failure_count input.new) × FailedOnceAtMost (W.failure_count output.old) (W.failure_count output.new) }
 {
@@ -280,6 +359,7 @@ fn watch<F: Store, R: InputDevice, W: OutputDevice>(
         compositions,
         first,
         counts,
+        json,
         input,
         output,
     )

@@ -15,11 +15,12 @@ use crate::telling::{put, put_short, reported};
 use clap::ArgMatches;
 use clap::error::ErrorKind;
 use ioa_log::{OutputDevice, send_all};
-use ioa_request::{Code, asks_seeds, is_set, read_bound, read_range, read_turns};
+use ioa_request::{Code, asks_seeds, is_given, is_set, read_bound, read_range, read_turns};
 use ioa_serving::{Failure, Status};
 use std::alloc::{AllocError, Global};
 
 /// Tells what is wrong with a command line, or writes the help or the version that it asks for, and answers the exit status.
+#[tactic(auto, using(crate::proofs::FaultKinds::usage_short, crate::proofs::FaultKinds::usage_told, crate::proofs::FaultKinds::usage_shown))]
 pub fn told<W: OutputDevice, E: OutputDevice>(
     alloc: Global,
     error: &clap::Error,
@@ -74,7 +75,8 @@ fn shown<W: OutputDevice, E: OutputDevice>(
 }
 
 /// Tells of a command line that has no fault and asks for nothing, and answers the exit status. It asks for what there is no explanation of, for the
-/// invariants of a list, for invariants and states, for a run whose settings are none, or for a chart within bounds that are none.
+/// invariants of a list, for invariants and states, for a run whose settings are none, for a chart within bounds that are none, or for a list or a log
+/// up to a bound that is none.
 pub fn told_unasked<E: OutputDevice>(
     alloc: Global,
     matches: &ArgMatches<'_>,
@@ -105,7 +107,8 @@ fn unasked_text(alloc: Global, matches: &ArgMatches<'_>) -> Result<String, Alloc
     if name == "chart" {
         return bad_bounds_text(alloc, found.get_str("from"), found.get_str("to"));
     }
-    bad_request_text(alloc, found.get_str("TEXT"), asks_both(found))
+    let until = found.get_str("until");
+    bad_taken_text(alloc, until, found.get_str("TEXT"), asks_both(found))
 }
 
 /// What is wrong with the words for a run, or for runs by many seeds.
@@ -116,7 +119,7 @@ fn bad_run_text(alloc: Global, found: &ArgMatches<'_>) -> Result<String, AllocEr
     let turns = found.get_str("turns");
     match found.get_str("seeds") {
         Some(word) => bad_seeds_text(alloc, word, turns),
-        None if asks_seeds(found) => missing_seeds_text(alloc),
+        None if asks_seeds(found) => missing_seeds_text(alloc, found),
         None => bad_settings_text(alloc, turns, found.get_str("seed"), found.get_str("words")),
     }
 }
@@ -193,14 +196,27 @@ fn bad_last_text(alloc: Global, to: Option<&str>) -> Result<String, AllocError>
     )
 }
 
-/// That specifications are those of runs by many seeds, in the same manner.
-fn missing_seeds_text(alloc: Global) -> Result<String, AllocError>
-    ensures { IfOk result (λ text. string_bytes text ≡ telling.missing_seeds_text) }
+/// That an option is one of runs by many seeds, in the same manner.
+fn missing_seeds_text(alloc: Global, found: &ArgMatches<'_>) -> Result<String, AllocError>
+    ensures { IfOk result (λ text. string_bytes text ≡ telling.missing_seeds_text (rows_of (found_of found.now))) }
 {
-    String::from_str(
-        alloc,
-        "error: the argument '--monitor <SPEC>' needs '--seeds <A..B>'\n\nFor more information, try '--help'.\n",
+    let option = seeds_option(found);
+    format!(in alloc;
+        "error: the argument '{option}' needs '--seeds <A..B>'\n\nFor more information, try '--help'.\n"
     )
+}
+
+/// The option of runs by many seeds that stands without their numbers.
+fn seeds_option(found: &ArgMatches<'_>) -> &'static str
+    ensures { result.now ≡ telling.seeds_option (rows_of (found_of found.now)) }
+{
+    if is_given(found, "monitor") {
+        "--monitor <SPEC>"
+    } else if is_set(found, "invariants") {
+        "--invariants"
+    } else {
+        "--keep <KFILE>"
+    }
 }
 
 /// Whether a replay is asked for invariants and for states.
@@ -240,6 +256,23 @@ fn bad_source_text(
             invalid_value_text(alloc, digits, "--seed <HEX>", "64 hexadecimal digits")
         }
         _ => two_sources_text(alloc),
+    }
+}
+
+/// What is wrong with the bound up to which a list or a log is taken; or else with what there is no explanation of, or with what a replay is asked for.
+fn bad_taken_text(
+    alloc: Global,
+    until: Option<&str>,
+    first: Option<&str>,
+    both: bool,
+) -> Result<String, AllocError>
+    ensures { IfOk result (λ text. string_bytes text ≡ telling.bad_taken_text (option_copied until.entry) (option_copied first.entry) both) }
+{
+    match until {
+        Some(word) if read_bound(until).is_none() => {
+            invalid_value_text(alloc, word, "--until <N>", "a whole number of 64 bits")
+        }
+        _ => bad_request_text(alloc, first, both),
     }
 }
 

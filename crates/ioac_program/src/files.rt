@@ -76,7 +76,10 @@ impl<'a, R: rt::Files> Store for Files<'a, R> {
 }
 
 fn open<R: rt::Files>(rt: &R, name: &str) -> Result<R::File, StoreErr> {
-    fs::open(rt, name).map_err(|error| store_err(&error))
+    match fs::open(rt, name) {
+        Ok(file) => Ok(file),
+        Err(error) => Err(store_err(&error)),
+    }
 }
 
 /// So many bytes of a file at most. What is no file, as a pipe, is not opened: that would wait for who writes to it.
@@ -122,7 +125,10 @@ fn replace<R: rt::Files>(rt: &R, beside: &str, name: &str, bytes: &[u8]) -> io::
         }
     }
     let file = File::create_new(rt, beside)?;
-    let placed = fill(file, bytes).and_then(|()| fs::rename(rt, beside, name));
+    let placed = match fill(file, bytes) {
+        Ok(()) => fs::rename(rt, beside, name),
+        Err(error) => Err(error),
+    };
     if placed.is_err() {
         let _ = fs::remove_file(rt, beside);
     }

@@ -42,10 +42,17 @@ fn main(rt: HostRuntime) -> ExitCode {
 
 /// Whether how far it is is shown: of runs by many seeds, on a terminal that does not have their lines.
 fn has_progress(rt: &HostRuntime, words: &[String]) -> bool {
-    let has_seeds = words
-        .iter()
-        .any(|word| word.as_str().starts_with("--seeds"));
-    has_seeds && rt.stderr().is_terminal() && !rt.stdout().is_terminal()
+    has_seeds(words) && rt.stderr().is_terminal() && !rt.stdout().is_terminal()
+}
+
+/// Whether the words ask for runs by many seeds.
+fn has_seeds(words: &[String]) -> bool {
+    for word in words {
+        if word.as_str().starts_with("--seeds") {
+            return true;
+        }
+    }
+    false
 }
 
 /// The words of the command line, the program's own first.

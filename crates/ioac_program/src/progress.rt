@@ -31,12 +31,22 @@ impl<W: Write, T: Write> Metered<W, T> {
         ensures { self.new.inner ≡ self.old.inner }
     {
         if let Some(terminal) = &mut self.terminal {
-            let ends = piece.iter().filter(|byte| **byte == b'\n').count() as u64;
-            let lines = self.lines.saturating_add(ends);
+            let lines = self.lines.saturating_add(ends_in(piece));
             self.lines = lines;
             let _ = write!(terminal, "{EMPTIED}{lines} seeds");
         }
     }
+}
+
+/// How many lines end in this piece.
+fn ends_in(piece: &[u8]) -> u64 {
+    let mut ends: u64 = 0;
+    for byte in piece {
+        if *byte == b'\n' {
+            ends = ends.saturating_add(1);
+        }
+    }
+    ends
 }
 
 impl<W: Write, T: Write> Write for Metered<W, T> {

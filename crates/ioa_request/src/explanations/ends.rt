@@ -52,6 +52,42 @@ pub static NOT_ENABLED: Explanation = Explanation {
         is enabled.",
 };
 
+pub static PASSED_OVER: Explanation = Explanation {
+    topic: Topic::PassedOver,
+    meaning: "The specification has the name of this action, but no entry with as many positions, whose types and constants its values\n\
+        fit: often the action is misspelled, or the specification is of another version. `ioac monitor` passes such an action\n\
+        over, and with `--strict` tells the first one. Its number in the log, from 0, stands behind `at`.",
+    example: Example::Monitor {
+        source: "automaton Counter\n\
+        signature output tick(k: Int)\n\
+        states c: Int\n\
+        transitions output tick pre k = c propose k := c eff c := c + 1\n\
+        composition One components A: Counter",
+        log: "{\"act\":\"tick(0)\",\"who\":0}\n\
+        {\"act\":\"tick\",\"who\":0}\n\
+        {\"end\":\"done after 2\"}",
+    },
+    mending: "Compare the action with the signatures of the specification, and mend the one that is wrong. In this example: it is\n\
+        `tick(1)`.",
+};
+
+pub static NOTHING_TAKEN: Explanation = Explanation {
+    topic: Topic::NothingTaken,
+    meaning: "No action that the log tells to be performed has a name of the specification, so that nothing was specified of it.\n\
+        `ioac monitor` accepts such a log, and with `--strict` tells it.",
+    example: Example::Monitor {
+        source: "automaton Counter\n\
+        signature output tick(k: Int)\n\
+        states c: Int\n\
+        transitions output tick pre k = c propose k := c eff c := c + 1\n\
+        composition One components A: Counter",
+        log: "{\"act\":\"tock(0)\",\"who\":0}\n\
+        {\"end\":\"done after 1\"}",
+    },
+    mending: "Compare the names in the log with those of the specification, or take the composition that has them by `--comp`. In\n\
+        this example: it is `tick(0)`.",
+};
+
 pub static BROKEN: Explanation = Explanation {
     topic: Topic::Broken,
     meaning: "`invariant V of component C broken after N`: in the state after N actions of the log, the source's invariant of\n\

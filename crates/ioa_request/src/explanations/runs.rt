@@ -42,9 +42,9 @@ pub static MEMORY: Explanation = Explanation {
 
 pub static IO: Explanation = Explanation {
     topic: Topic::Code(Code::Io),
-    meaning: "The file cannot be read, or the object cannot be put in its file, as where another file than an object stands there.",
+    meaning: "The file cannot be read, or the object or the log cannot be put in its file, as where another file than an object or a log stands there.",
     example: Example::Told(
         "No source or list gives it. A name that no file has does, a file that you may not read, or a folder in which you may not write.",
     ),
-    mending: "Mend the name of the file, or its rights. Beside an object OUT no file OUT.part may stand: it would be another run's. A file OUT that is no object is not replaced: give another name, or remove it.",
+    mending: "Mend the name of the file, or its rights. Beside an object OUT no file OUT.part may stand: it would be another run's. A file OUT that is no object is not replaced, nor a file KFILE that is no log: give another name, or remove it.",
 };

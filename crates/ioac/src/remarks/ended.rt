@@ -6,10 +6,10 @@ ghost use Rattle.std.specs.String.{string_bytes};
 ghost use Rattle.ioa_value.specs.Actions.{act_of};
 ghost use Rattle.ioa_system.specs.Logs.{actions_of, logged};
 ghost use Rattle.ioa_log.specs.LogTexts.{ReadsLog};
-ghost use Rattle.ioa_account.specs.Remarks.{TellsDifference, TellsInspected, TellsMonitored};
+ghost use Rattle.ioa_account.specs.Remarks.{TellsDifference, TellsInspected};
 ghost use Rattle.ioa_serving.specs.Logs.{performed_in};
 ghost use Rattle.ioac.specs.Remarks as spec;
-ghost use Rattle.ioac.specs.Remarks.{IsComposed, IsLoaded, IsNoLog, OfBegun, OfHosts, OfLog, Explains, TellsEnded, TellsIdle, TellsListEnd, TellsListed, TellsLogEnd, TellsRunEnd, TellsSource};
+ghost use Rattle.ioac.specs.Remarks.{IsComposed, IsLoaded, IsNoLog, OfBegun, OfHosts, OfLog, Explains, TellsCounted, TellsEnded, TellsIdle, TellsListEnd, TellsListed, TellsLogEnd, TellsRunEnd, TellsSource};
 
 use crate::remarks::hints::taken_text;
 use crate::remarks::idle::put_idle_and;
@@ -18,10 +18,13 @@ use crate::remarks::{hints, nameless};
 use ioa_account::{
     Told, actions_in, put_difference, put_inspected, put_list_end, put_log_end, put_monitored,
 };
+use ioa_compile::compile;
 use ioa_compose::Composition;
 use ioa_log::{Counted, LogErr, begun_log, read_log};
 use ioa_request::Request;
-use ioa_serving::{Status, Store, StoreErr, compose_text, is_object, performed_in};
+use ioa_serving::{
+    Status, Store, StoreErr, compose_text, is_object, performed_in, put_monitor_counts,
+};
 use ioa_syntax::Refusal;
 use ioa_system::Log;
 use ioa_value::{Action, OutOfMemory, Types, read_list};
@@ -142,9 +145,12 @@ fn put_served(
         Request::Log { composition, .. } => put_end_of_list(alloc, text, told, *composition),
         Request::ReplayLog { .. } => put_end_of_log(alloc, text, told),
         Request::ReplayLogStates { .. } => put_end_of_log(alloc, text, told),
+        Request::LogByLog { .. } => put_end_of_log(alloc, text, told),
         Request::Chart { .. } => put_end_of_log(alloc, text, told),
         Request::ReplayInvariants { .. } => put_invariants(alloc, text, told),
         Request::Monitor { .. } => put_monitor(alloc, text, told),
+        Request::MonitorJson { .. } => put_monitor(alloc, text, told),
+        Request::StrictMonitor { .. } => put_monitor(alloc, text, told),
         Request::Watch { .. } => Ok(()),
         Request::Run(settings) => {
             put_end_of_run(alloc, text, status, told, settings.composition)
@@ -283,14 +289,28 @@ fn put_invariants(alloc: Global, text: &mut String, told: &Told<'_>) -> Result<(
     }
 }
 
-/// Puts how many of the log's actions the specification has, and what came of them.
+/// Puts how many of the log's actions the specification takes, by its names, how many it has, and what came of them.
 fn put_monitor(alloc: Global, text: &mut String, told: &Told<'_>) -> Result<(), OutOfMemory>
-    ensures { OnOk result (OfLog told.now (λ log. OfHosts told.now (λ h. TellsMonitored told.now h (performed_in log))) (string_bytes text.old) (string_bytes text.new)) }
+    ensures { OnOk result (OfLog told.now (λ log. TellsCounted told.now (performed_in log)) (string_bytes text.old) (string_bytes text.new)) }
 {
     match heard_log(alloc, told.composition.types(), told.input)? {
-        Some(log) => put_monitored(alloc, text, told, performed_in(alloc, log)?),
+        Some(log) => put_counted(alloc, text, told, performed_in(alloc, log)?),
         None => Ok(()),
     }
+}
+
+/// The same of these actions.
+fn put_counted(
+    alloc: Global,
+    text: &mut String,
+    told: &Told<'_>,
+    actions: Vec<Action>,
+) -> Result<(), OutOfMemory>
+    ensures { OnOk result (TellsCounted told.now (map act_of actions.items) (string_bytes text.old) (string_bytes text.new)) }
+{
+    let program = compile(alloc, told.composition)?;
+    put_monitor_counts(alloc, text, &program, &actions)?;
+    put_monitored(alloc, text, told, actions)
 }
 
 /// The log that the bytes are, if they are one. They are at hand, so that no device fails.

@@ -2,7 +2,7 @@
 
 use crate::remarks::places::{files_of, out_of};
 use ioa_request::Request;
-use ioa_serving::{Store, StoreErr, gives_way};
+use ioa_serving::{LOG_MARK, OBJECT_MARK, Store, StoreErr, gives_way};
 use ioa_value::OutOfMemory;
 use std::alloc::Global;
 use std::fmt::Write;
@@ -22,26 +22,31 @@ pub fn put<F: Store>(
         }
     }
     if let Some(name) = out_of(asked) {
-        put_unwritten(alloc, text, name, store)?;
+        put_unwritten(alloc, text, asked, name, store)?;
     }
     Ok(())
 }
 
-/// Puts why an object was not put in a file.
+/// Puts why an object, or a log, was not put in a file.
 fn put_unwritten<F: Store>(
     alloc: Global,
     text: &mut String,
+    asked: &Request<'_>,
     name: &str,
     store: &F,
 ) -> Result<(), OutOfMemory> {
     let found = store.beginning(alloc, name)?;
-    if gives_way(&found) {
+    let (kind, gives_way) = match asked {
+        Request::Seeds(_) => ("log", gives_way(&LOG_MARK, &found)),
+        _ => ("object", gives_way(&OBJECT_MARK, &found)),
+    };
+    if gives_way {
         writeln!(
             text,
             "{name} was not written: it is no file, {name}.part is there already, or the system refuses"
         )?;
     } else {
-        writeln!(text, "{name} is there and is no object")?;
+        writeln!(text, "{name} is there and is no {kind}")?;
     }
     Ok(())
 }

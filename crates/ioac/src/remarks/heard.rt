@@ -216,12 +216,16 @@ fn log_option(asked: &Request<'_>) -> &'static str
     ensures { result.now ≡ spec.log_option asked.now }
 {
     match asked {
-        Request::Replay { .. } | Request::ReplayStates { .. } => ": with `--log` a log is read",
+        Request::Replay { .. } | Request::ReplayStates { .. } | Request::Log { .. } => {
+            ": with `--log` a log is read"
+        }
         Request::ReplayLog { .. }
         | Request::ReplayLogStates { .. }
         | Request::ReplayInvariants { .. }
-        | Request::Log { .. }
+        | Request::LogByLog { .. }
         | Request::Monitor { .. }
+        | Request::MonitorJson { .. }
+        | Request::StrictMonitor { .. }
         | Request::Watch { .. }
         | Request::Chart { .. }
         | Request::Graph { .. }

@@ -111,7 +111,7 @@ fn rest_text(
 ) -> Result<String, OutOfMemory> {
     let mut text = String::new(alloc);
     let names = names_of(alloc, composition.members())?;
-    if !names.iter().any(|other| *other == action) {
+    if !names.contains(&action) {
         if let Some(near) = nearest(action, &names) {
             writeln!(text, "is `{near}` meant?")?;
         }

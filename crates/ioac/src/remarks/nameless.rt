@@ -1,21 +1,22 @@
 //! What there is to say of an object, which has no source, and whose variables have no names.
 
-ghost use Rattle.std.specs.Prelude.{◌≡◌, true, IfOk, OnOk};
+ghost use Rattle.std.specs.Prelude.{◌≡◌, true, IfOk, OnOk, map};
 ghost use Rattle.std.specs.Option.{option_copied};
 ghost use Rattle.std.specs.String.{string_bytes};
+ghost use Rattle.ioa_value.specs.Actions.{act_of};
 ghost use Rattle.ioa_serving.specs.Headline.{begins_object};
-ghost use Rattle.ioac.specs.Remarks.{IsProgramOf, TellsNameless, TellsObjectLog, TellsObjectMonitor, TellsOfObject};
+ghost use Rattle.ioac.specs.Remarks.{IsProgramOf, TellsNameless, TellsObjectCounted, TellsObjectLog, TellsObjectMonitor, TellsOfObject};
 
 use crate::remarks::ended::{Ended, heard_log};
 use ioa_account::put_object_monitored;
 use ioa_compile::Program;
 use ioa_object::ObjErr;
 use ioa_request::Request;
-use ioa_serving::{Failure, performed_in, program_of};
-use ioa_value::OutOfMemory;
+use ioa_serving::{Failure, performed_in, program_of, put_monitor_counts};
+use ioa_value::{Action, OutOfMemory};
 use std::alloc::Global;
 
-/// Puts behind the text what there is to say of a request of an object that ended so: of a monitor how many of the log's actions the object has, and of the
+/// Puts behind the text what there is to say of a request of an object that ended so: of a monitor how many of the log's actions the object takes and has, and of the
 /// first that it does not perform the log's line, why, and the component. Of others nothing is said.
 pub fn put(
     alloc: Global,
@@ -49,10 +50,13 @@ fn put_served(
 {
     match asked {
         Request::Monitor { .. } => put_monitor(alloc, text, object, name, input),
+        Request::MonitorJson { .. } => put_monitor(alloc, text, object, name, input),
+        Request::StrictMonitor { .. } => put_monitor(alloc, text, object, name, input),
         Request::Watch { .. } => Ok(()),
         Request::Replay { .. } => Ok(()),
         Request::ReplayStates { .. } => Ok(()),
         Request::Log { .. } => Ok(()),
+        Request::LogByLog { .. } => Ok(()),
         Request::ReplayLog { .. } => Ok(()),
         Request::ReplayLogStates { .. } => Ok(()),
         Request::ReplayInvariants { .. } => Ok(()),
@@ -101,7 +105,7 @@ pub fn program_in(
     }
 }
 
-/// Puts how many of the log's actions the program has, and what came of them.
+/// Puts how many of the log's actions the program takes, by its names, how many it has, and what came of them.
 fn put_monitored(
     alloc: Global,
     text: &mut String,
@@ -113,8 +117,22 @@ fn put_monitored(
     match heard_log(alloc, program.types(), input)? {
         Some(log) => {
             let actions = performed_in(alloc, log)?;
-            put_object_monitored(alloc, text, program, input, &actions)
+            put_counted(alloc, text, program, input, &actions)
         }
         None => Ok(()),
     }
+}
+
+/// Puts how many of these actions the program takes, by its names, how many it has, and of the first that it does not perform why not.
+fn put_counted(
+    alloc: Global,
+    text: &mut String,
+    program: &Program,
+    input: &[u8],
+    actions: &[Action],
+) -> Result<(), OutOfMemory>
+    ensures { OnOk result (TellsObjectCounted program.now input.now (map act_of actions.now) (string_bytes text.old) (string_bytes text.new)) }
+{
+    put_monitor_counts(alloc, text, program, actions)?;
+    put_object_monitored(alloc, text, program, input, actions)
 }

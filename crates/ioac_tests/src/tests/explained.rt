@@ -76,7 +76,7 @@ fn examples_give_their_codes(rt: HostRuntime) {
             count = count.saturating_add(1);
         }
     }
-    assert_eq!(rt; count, 31);
+    assert!(rt; count == 31);
 }
 
 /// Runs `explain` with these words, which has to print what is said of this topic.
@@ -110,7 +110,7 @@ fn each_code_is_explained(rt: HostRuntime) {
 }
 
 /// What the program prints, and the topic of each.
-const PRINTED: [(&str, Topic); 16] = [
+static PRINTED: [(&str, Topic); 18] = [
     ("explain e7", Topic::Code(Code::E7)),
     ("explain E7 line 3", Topic::Code(Code::E7)),
     (
@@ -131,6 +131,8 @@ const PRINTED: [(&str, Topic); 16] = [
     ("explain not enabled at 4", Topic::NotEnabled),
     ("explain monitor: not enabled at 11", Topic::NotEnabled),
     ("explain Safety: not an action at 4", Topic::NotAnAction),
+    ("explain monitor: passed over at 3", Topic::PassedOver),
+    ("explain monitor: nothing taken", Topic::NothingTaken),
     (
         "explain invariant 0 of component 1 broken after 3",
         Topic::Broken,
@@ -140,13 +142,13 @@ const PRINTED: [(&str, Topic); 16] = [
 
 #[test]
 fn what_is_printed_is_explained(rt: HostRuntime) {
-    for (words, topic) in PRINTED {
-        expect_topic(&rt, rt.alloc(), words, topic);
+    for (words, topic) in &PRINTED {
+        expect_topic(&rt, rt.alloc(), words, *topic);
     }
 }
 
 /// What is explained by an example without a code: the words that run the example, and the last line that they print.
-const ENDS: [(Topic, &str, &str); 9] = [
+static ENDS: [(Topic, &str, &str); 11] = [
     (
         Topic::Fault(Fault::Overflow),
         REPLAY,
@@ -176,6 +178,16 @@ const ENDS: [(Topic, &str, &str); 9] = [
     (Topic::NotAnAction, REPLAY, "end: not an action at 1\n"),
     (Topic::NotEnabled, REPLAY, "end: not enabled at 1\n"),
     (
+        Topic::PassedOver,
+        "monitor f --strict",
+        "monitor: passed over at 1\n",
+    ),
+    (
+        Topic::NothingTaken,
+        "monitor f --strict",
+        "monitor: nothing taken\n",
+    ),
+    (
         Topic::Broken,
         "replay f --log --invariants",
         "invariant 0 of component 0 broken after 2\n",
@@ -195,10 +207,10 @@ fn source_and_input(example: Example) -> Option<(&'static str, &'static str)> {
 
 #[test]
 fn examples_of_ends_end_so(rt: HostRuntime) {
-    for (topic, words, last) in ENDS {
-        let (source, list) = source_and_input(explanation(topic).example).expect(&rt, "an input");
+    for (topic, words, last) in &ENDS {
+        let (source, list) = source_and_input(explanation(*topic).example).expect(&rt, "an input");
         let given = Given {
-            words,
+            words: *words,
             file: source.as_bytes(),
             list,
         };

@@ -147,7 +147,7 @@ replay f | pre k = c /\ c < 9 | pre k = head(q) | tick(5)^ | list, line 1: | in 
 replay f | q := empty(Ints) | q := append(append(append(q, 1), 1), 1) | tick(5)^tick(6)^ | list, line 2: | in the effect of tick(6) in A: the sequence is full
 replay f | c := c + 1 | c := c * 9223372036854775807 | tick(5)^ | list, line 1: | in the effect of tick(5) in A: the result does not fit 64 bits
 monitor f |  |  | {"act":"tick(5)","who":0}^{"end":"done after 1"}^ | f:7: L7:  | `rest` is an internal action of A
-monitor --comp One2 f | W: Watch^ | W: Watch^composition One2 components W: Watch^ | {"act":"tock","who":0}^{"end":"done after 1"}^ | the specification has 0 of 1 actions of the log | nothing was specified
+monitor --comp One2 f | W: Watch^ | W: Watch^composition One2 components W: Watch^ | {"act":"tock","who":0}^{"end":"done after 1"}^ | One2: 0 tick, 1 passed over^the specification has 0 of 1 actions of the log | nothing was specified
 -- warnings
 check f | pre k = c /\ c < 9 | pre c < 9 |  | warning: f, line 10:  | k ^ tick
 check --compositions f | c := c + 1^ | c := c % 3^ |  | warning: f, line 14:  | `mod`

@@ -1,7 +1,9 @@
 //! Objects: what is told of their bytes, and what is read of them and written.
 
 use ioa_object::objects_are_their_programs;
-use ioac::{objects_do_as_their_sources, objects_run_as_their_sources, one_composition};
+use ioac::{
+    cuts_are_beginnings, objects_do_as_their_sources, objects_run_as_their_sources, one_composition,
+};
 
 /// The words after the program's name, a file's bytes, standard input, what is printed, what is told of errors, and the exit status.
 pub const ROWS: &str = r#"
@@ -16,6 +18,10 @@ log f | 7f494f41010000015801000141000001000102676f000001000000010100010000000000
 log f --comp X | 7f494f41010000015801000141000001000102676f000001000000010100010000000000000000 | go^stop^go^ | {"act":"go","who":0}^{"end":"done after 1"}^ |  | 4
 monitor f | 7f494f41010000015801000141000001000102676f000001000000010100010000000000000000 | {"act":"go","who":0}^{"act":"stop","who":5}^{"end":"done after 2"} | monitor: ok^ |  | 0
 run f --alone --turns 2 | 7f494f41010000015801000141000001000102676f000001000000010100010000000000000000 |  | go^go^end: done after 2^ |  | 0
+run f --alone --turns 1 --seeds 5..5 --keep o | 7f494f41010000015801000141000001000102676f000001000000010100010000000000000000 |  | 0000000000000000000000000000000000000000000000000000000000000005 end: done after 1^seeds 1; done 1; fault 0^ |  | 0
+run f --alone --turns 1 --seeds 5..5 --invariants | 7f494f41010000015801000141000001000102676f000001000000010100010000000000000000 |  |  | object^ | 2
+run f --alone --turns 100001 --seeds 5..5 --invariants --comp Y | 7f494f41010000015801000141000001000102676f000001000000010100010000000000000000 |  |  | object^ | 2
+run f --alone --turns 1 --seeds 5..5 --keep o --monitor X | 7f494f41010000015801000141000001000102676f000001000000010100010000000000000000 |  |  | object^ | 2
 run f --alone --turns 1 --reports --log | 7f494f41010000015801000141000001000102676f000001000000010100010000000000000000 |  | {"act":"go","who":0}^{"end":"done after 1"}^ | A: 1 committed, 0 idle, 0 stale, turns done^environment: 0 committed, 1 idle, 0 stale, turns done^ | 0
 chart f | 7f494f41010000015801000141000001000102676f000001000000010100010000000000000000 | {"act":"go","who":0}^{"end":"done after 1"} | sequenceDiagram^  participant P0 as A^  participant P1 as environment^  Note over P0: go^ |  | 0
 graph f --comp X | 7f494f41010000015801000141000001000102676f000001000000010100010000000000000000 |  | digraph "X" {^  node [shape=box];^  P0 [label="A"];^  P1 [label="environment", shape=ellipse];^  P0 -> P1 [label="go"];^}^ |  | 0
@@ -152,4 +158,5 @@ fn laws_are_called(_rt: HostRuntime) {
     objects_do_as_their_sources();
     objects_run_as_their_sources();
     one_composition();
+    cuts_are_beginnings();
 }

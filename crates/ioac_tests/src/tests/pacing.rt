@@ -8,7 +8,7 @@ use std::process::Abort;
 
 /// The group of each worker by a letter or a digit, and who begins a turn after whom: its number, then `h` where it is held and `g` where it
 /// lets others go, and at last `x` where it waits in vain.
-const ROWS: [(&str, &str); 11] = [
+static ROWS: [(&str, &str); 11] = [
     ("0", "0g 0 0 0 0"),
     // all wait for the last one to come
     ("000", "0h 1h 2g 0 1 2"),
@@ -59,13 +59,13 @@ fn expect_row(rt: &impl Abort, alloc: Global, groups: &str, turns: &str) {
 
 #[test]
 fn workers_wait_for_those_behind(rt: HostRuntime) {
-    for (groups, turns) in ROWS {
+    for (groups, turns) in &ROWS {
         expect_row(&rt, rt.alloc(), groups, turns);
     }
 }
 
 /// A source, the names of the actions of a script, and for each component and for the environment the first worker of its group.
-const GROUPS: [(&str, &str, &str); 8] = [
+static GROUPS: [(&str, &str, &str); 8] = [
     // nobody has an action of another, also where there is one name
     (
         "automaton A(i: Int) signature internal go(const i) transitions internal go composition C components P: A(0); Q: A(1); R: A(2)",
@@ -139,22 +139,31 @@ fn script_of(rt: &impl Abort, alloc: Global, names: &str) -> Vec<Action> {
 fn first_workers(rt: &impl Abort, alloc: Global, groups: &[usize]) -> String {
     let mut text = String::new(alloc);
     for group in groups {
-        let first = groups.iter().position(|other| *other == *group);
-        let first = first.expect(rt, "a worker");
+        let first = first_worker(groups, *group).expect(rt, "a worker");
         write!(text, "{first} ").expect(rt, "memory");
     }
     text
 }
 
+/// The first worker of the group.
+fn first_worker(groups: &[usize], group: usize) -> Option<usize> {
+    for (who, other) in groups.iter().enumerate() {
+        if *other == group {
+            return Some(who);
+        }
+    }
+    None
+}
+
 #[test]
 fn workers_are_in_groups(rt: HostRuntime) {
-    for (source, names, wanted) in GROUPS {
+    for (source, names, wanted) in &GROUPS {
         let program = program_of(rt.alloc(), source.as_bytes(), None);
         assert!(rt; program.is_ok(), "no program of {source}");
         let program = program.ok().expect(&rt, "a program");
         let script = script_of(&rt, rt.alloc(), names);
         let groups = groups_of(rt.alloc(), &program, &script).expect(&rt, "memory");
         let found = first_workers(&rt, rt.alloc(), &groups);
-        assert!(rt; found.as_str() == wanted, "{source}");
+        assert!(rt; found.as_str() == *wanted, "{source}");
     }
 }

@@ -17,6 +17,9 @@ replay f --states | automaton C^signature internal a^states c: Int^transitions i
 replay f | automaton D^signature internal a^states n: Int^transitions^  internal a eff n := 1 div n^^composition One components E: D | a^ | list, line 1:^    a^fault 2 in the effect of a in E: the divisor is 0^f, line 5:^      internal a eff n := 1 div n^E.n = 0^
 log f | automaton D^signature internal a^states n: Int^transitions^  internal a eff n := 1 div n^composition One components E: D | a^ | list, line 1:^    a^fault 2 in the effect of a in E: the divisor is 0^f, line 5:^      internal a eff n := 1 div n^E.n = 0^
 replay f | automaton D^signature internal a^transitions internal a^composition One components E: D | a^a^
+-- of what is taken of a list, and of a log that is written again
+replay f --until 2 | automaton C^signature output tick(k: Int)^states c: Int^transitions^  output tick^  pre k = c /\ c < 2^  propose k := c^  eff c := c + 1^composition One components A: C | tick(0)^^% more^tick(5)^x y^ | list, line 4:^    tick(5)^the precondition of tick(5) in A is false^f, line 5:^      output tick^      pre k = c /\ c < 2^      propose k := c^      eff c := c + 1^A.c = 1^
+log f --log | automaton D^signature internal a^states n: Int^transitions^  internal a eff n := 1 div n^composition One components E: D | {"act":"a","who":0}^{"end":"fault 2 in component 0 at 0"}^ | log, line 1:^    {"act":"a","who":0}^fault 2 in the effect of a in E: the divisor is 0^f, line 5:^      internal a eff n := 1 div n^E.n = 0^
 -- of an action that no component has those that have an entry of its name, or the nearest name, and which composition was taken
 replay f | automaton C^signature output tick(k: Int)^transitions output tick pre true propose k := 1^automaton D^signature input tick(k: Int)^transitions input tick^composition One components A: C; B: D^composition Two components A: C; B: D | tick(true)^ | list, line 1:^    tick(true)^no component has tick(true)^A has `tick(k: Int)`^B has `tick(k: Int)`^no composition was named, so that `Two` was taken, the last of 2^
 replay f --comp One --states | automaton C^signature output tick(k: Int)^transitions output tick pre true propose k := 1^automaton D^signature input tick(k: Int)^transitions input tick^composition One components A: C; B: D^composition Two components A: C; B: D | tik(6)^ | list, line 1:^    tik(6)^no component has tik(6)^is `tick` meant?^
@@ -147,7 +150,7 @@ replay f --comp Nine | automaton A^signature internal a^transitions internal a^c
 replay f --log | automaton A^signature internal a^transitions internal a^composition One components X: A | a^ | log:1: L1: this is an action, as a list has, and a log is wanted here: `ioac log` makes one of a list^    a^ | L1
 replay f --log | automaton A^signature internal a^transitions internal a^composition One components X: A | {'act':'a','who':0}^ | log:1: L1: this line is no JSON: a log has one JSON object a line, as `{"act":"tick(5)","who":0}`, and last `{"end":"done after 1"}`^    {'act':'a','who':0}^ | L1
 replay f | automaton A^signature internal a^transitions internal a^composition One components X: A | {"act":"a","who":0}^ | list:1: L2: this is a line of a log, and a list is wanted here: with `--log` a log is read^    {"act":"a","who":0}^ | L2
-log f | automaton A^signature internal a^transitions internal a^composition One components X: A | {"act":"a","who":0}^ | list:1: L2: this is a line of a log, and a list is wanted here^    {"act":"a","who":0}^ | L2
+log f | automaton A^signature internal a^transitions internal a^composition One components X: A | {"act":"a","who":0}^ | list:1: L2: this is a line of a log, and a list is wanted here: with `--log` a log is read^    {"act":"a","who":0}^ | L2
 replay f | type P = tuple { n: Int, t: Bool }^automaton A^signature input send(p: P)^transitions input send^composition One components X: A | send(P(1, true))^send(Q(1, true))^ | list:2: L2: the source has neither a type nor a name of an enumeration `Q`^    send(Q(1, true))^ | L2
 replay f --log | type P = tuple { n: Int, t: Bool }^automaton A^signature input send(p: P)^transitions input send^composition One components X: A | {"act":"send(Packet(1, true))","who":1}^{"end":"done after 1"}^ | log:1: L2: the source has neither a type nor a name of an enumeration `Packet`^    {"act":"send(Packet(1, true))","who":1}^ | L2
 replay f --log | automaton A^signature internal a^transitions internal a^composition One components X: A | {"act":"a","who":"X"}^{"end":"done after 1"}^ | log:1: L2: this line cannot be read: a log has one JSON object a line, as `{"act":"tick(5)","who":0}`, and last `{"end":"done after 1"}`^    {"act":"a","who":"X"}^ | L2
@@ -160,6 +163,7 @@ monitor f | automaton A^signature internal a^transitions internal a^composition 
 monitor f | automaton A^signature output tick^transitions output tick^composition One components X: A^hidden tick | {"end":"done after 0"}^ | f:5: L7: `tick` is hidden, and a log shows it^    hidden tick^ | L7
 replay g |  |  | g was not read: there is none^
 compile f p | automaton A^signature internal a^transitions internal a^composition One components X: A |  | p was not written: it is no file, p.part is there already, or the system refuses^
+run f --alone --turns 1 --seeds 1..1 --monitor No --keep p | automaton A^signature output a^transitions output a^automaton B^signature output a^transitions output a pre false^composition No components X: B^composition One components X: A |  | p was not written: it is no file, p.part is there already, or the system refuses^
 -- what a watch counted, and where its specification is full
 watch f --comp One | type Q = seq 1 of Int^automaton A^signature output put(k: Int); input reset^states q: Q^transitions output put propose k := 0 eff q := append(q, k) input reset^composition One components X: A | {"act":"put(7)"}^{"act":"other(7)"}^{"act":"reset"}^{"act":"reset"}^ | One: 1 put, 2 reset, 1 of other names^
 watch f --comp One | type Q = seq 1 of Int^automaton A^signature output put(k: Int); input reset^states q: Q^transitions output put propose k := 0 eff q := append(q, k) input reset^composition One components X: A | {"act":"reset"}^{"act":"put(7)"}^{"act":"put(8)"}^ | One: 1 put, 1 reset, 0 of other names^One: the specification is full, which tells nothing of the system^
@@ -181,9 +185,14 @@ replay f --log | automaton C^signature output tick(k: Int)^states c: Int^transit
 replay f --log | automaton A^signature internal a^transitions internal a^composition One components X: A | {"act":"a","who":0}^{"end":"done after 2"}^x^ | log:2: L4: the composition's run differs from here on^    {"end":"done after 2"}^all actions of the log are performed, so that the run's end is: done after 1^ | L4
 replay f --log | automaton D^signature internal a^states n: Int^transitions^  internal a eff n := 1 div n^composition One components E: D | {"act":"a","who":0}^{"act":"a","who":0}^x^ | log:1: L4: the composition's run differs from here on^    {"act":"a","who":0}^fault 2 in the effect of a in E: the divisor is 0^f, line 5:^      internal a eff n := 1 div n^E.n = 0^ | L4
 replay f --log | automaton D^signature internal a^states n: Int^transitions^  internal a eff n := 1 div n^composition One components E: D | {"act":"a","who":0}^{"end":"fault 1 in component 0 at 0"}^x^ | log:2: L4: the composition's run differs from here on^    {"end":"fault 1 in component 0 at 0"}^the run's end is: fault 2 in component 0 at 0^fault 2 in the effect of a in E: the divisor is 0^f, line 5:^      internal a eff n := 1 div n^E.n = 0^ | L4
-monitor f | automaton C^signature output tick(k: Int)^states c: Int^transitions output tick pre k = c propose k := c eff c := c + 1^composition One components A: C | {"act":"tick(0)","who":0}^{"act":"other","who":1}^{"end":"done after 2"}^ | the specification has 1 of 2 actions of the log^
-monitor f | automaton C^signature output tick(k: Int)^states c: Int^transitions output tick pre k = c propose k := c eff c := c + 1^composition One components A: C | {"act":"other","who":1}^{"end":"done after 1"}^ | the specification has 0 of 1 actions of the log: nothing was specified^
-monitor f | automaton C^signature output tick(k: Int)^states c: Int^transitions^  output tick pre k = c propose k := c eff c := c + 1^composition One components A: C | {"act":"tick(0)","who":0}^{"act":"other","who":1}^{"act":"tick(5)","who":0}^{"end":"done after 3"}^ | the specification has 2 of 3 actions of the log^log, line 3:^    {"act":"tick(5)","who":0}^the precondition of tick(5) in A is false^f, line 5:^      output tick pre k = c propose k := c eff c := c + 1^A.c = 1^
+monitor f | automaton C^signature output tick(k: Int)^states c: Int^transitions output tick pre k = c propose k := c eff c := c + 1^composition One components A: C | {"act":"tick(0)","who":0}^{"act":"other","who":1}^{"end":"done after 2"}^ | One: 1 tick, 1 passed over^the specification has 1 of 2 actions of the log^
+monitor f | automaton C^signature output tick(k: Int)^states c: Int^transitions output tick pre k = c propose k := c eff c := c + 1^composition One components A: C | {"act":"other","who":1}^{"end":"done after 1"}^ | One: 0 tick, 1 passed over^the specification has 0 of 1 actions of the log: nothing was specified^
+monitor f | automaton C^signature output tick(k: Int)^states c: Int^transitions^  output tick pre k = c propose k := c eff c := c + 1^composition One components A: C | {"act":"tick(0)","who":0}^{"act":"other","who":1}^{"act":"tick(5)","who":0}^{"end":"done after 3"}^ | One: 1 tick, 1 passed over^the specification has 2 of 3 actions of the log^log, line 3:^    {"act":"tick(5)","who":0}^the precondition of tick(5) in A is false^f, line 5:^      output tick pre k = c propose k := c eff c := c + 1^A.c = 1^
+-- of a monitor that is asked strictly the same is told
+monitor f --strict | automaton C^signature output tick(k: Int)^states c: Int^transitions output tick pre k = c propose k := c eff c := c + 1^composition One components A: C | {"act":"tick(0)","who":0}^{"act":"other","who":1}^{"act":"tick(1)","who":0}^{"end":"done after 3"}^ | One: 2 tick, 1 passed over^the specification has 2 of 3 actions of the log^
+monitor f --strict | automaton C^signature output tick(k: Int)^states c: Int^transitions output tick pre k = c propose k := c eff c := c + 1^composition One components A: C | {"act":"other","who":1}^{"end":"done after 1"}^ | One: 0 tick, 1 passed over^the specification has 0 of 1 actions of the log: nothing was specified^
+monitor f --strict | automaton C^signature output tick(k: Int)^states c: Int^transitions output tick pre k = c propose k := c eff c := c + 1^composition One components A: C | {"act":"tick(0)","who":0}^{"act":"tick","who":0}^{"act":"tick(1)","who":0}^{"end":"done after 3"}^ | One: 2 tick, 1 passed over^the specification has 2 of 3 actions of the log^
+monitor f --strict | automaton C^signature output tick(k: Int)^states c: Int^transitions^  output tick pre k = c propose k := c eff c := c + 1^composition One components A: C | {"act":"tick(0)","who":0}^{"act":"other","who":1}^{"act":"tick(5)","who":0}^{"end":"done after 3"}^ | One: 1 tick, 1 passed over^the specification has 2 of 3 actions of the log^log, line 3:^    {"act":"tick(5)","who":0}^the precondition of tick(5) in A is false^f, line 5:^      output tick pre k = c propose k := c eff c := c + 1^A.c = 1^
 replay f --log --invariants | automaton C^signature internal a^states c: Int^transitions internal a eff c := c + 1^composition One components A: C^invariant of C: c < 2 | {"act":"a","who":0}^{"end":"done after 1"}^ | invariants asked: 1 in each of 2 states^
 replay f --log --invariants | automaton C^signature internal a^states c: Int^transitions internal a eff c := c + 1^composition One components A: C^invariant of C: c < 2 | {"act":"a","who":0}^{"act":"a","who":0}^{"act":"a","who":0}^{"end":"done after 3"}^ | invariants asked: 1 in each of 3 states^log, line 2:^    {"act":"a","who":0}^after this action an invariant of A is broken:^f, line 6:^    invariant of C: c < 2^A.c = 2^
 replay f --log --invariants | automaton C^signature internal a^states c: Int^transitions internal a eff c := c + 1^invariant of C:^  c < 3 /\^  1 <= c^^invariant of C: c < 0^composition One components A: C | {"end":"done after 0"}^ | invariants asked: 2 in each of 1 states^in the first state an invariant of A is broken:^f, line 5:^    invariant of C:^      c < 3 /\^      1 <= c^A.c = 0^
@@ -206,12 +215,13 @@ check f | automaton C^signature output tick(k: Int)^states c: Int := true^transi
 
 /// The same, where the file is the object of this source: of a monitor what can be said without the source, and of what is no monitor nothing.
 const OBJECTS: &str = r#"
-monitor f | automaton C^signature output tick(k: Int)^states c: Int^transitions output tick pre k = c propose k := c eff c := c + 1^composition One components A: C | {"act":"tick(0)","who":0}^{"act":"other","who":1}^{"end":"done after 2"}^ | the specification has 1 of 2 actions of the log^
-monitor f | automaton C^signature output tick(k: Int)^states c: Int^transitions output tick pre k = c propose k := c eff c := c + 1^composition One components A: C | {"act":"other","who":1}^{"end":"done after 1"}^ | the specification has 0 of 1 actions of the log: nothing was specified^
-monitor f --comp One | automaton C^signature output tick(k: Int)^states c: Int^transitions output tick pre k = c propose k := c eff c := c + 1^composition One components A: C | {"act":"tick(0)","who":0}^{"act":"other","who":1}^{"act":"tick(5)","who":0}^{"end":"done after 3"}^ | the specification has 2 of 3 actions of the log^log, line 3:^    {"act":"tick(5)","who":0}^tick(5) is not enabled in A^
+monitor f | automaton C^signature output tick(k: Int)^states c: Int^transitions output tick pre k = c propose k := c eff c := c + 1^composition One components A: C | {"act":"tick(0)","who":0}^{"act":"other","who":1}^{"end":"done after 2"}^ | One: 1 tick, 1 passed over^the specification has 1 of 2 actions of the log^
+monitor f | automaton C^signature output tick(k: Int)^states c: Int^transitions output tick pre k = c propose k := c eff c := c + 1^composition One components A: C | {"act":"other","who":1}^{"end":"done after 1"}^ | One: 0 tick, 1 passed over^the specification has 0 of 1 actions of the log: nothing was specified^
+monitor f --strict | automaton C^signature output tick(k: Int)^states c: Int^transitions output tick pre k = c propose k := c eff c := c + 1^composition One components A: C | {"act":"tick(0)","who":0}^{"act":"tick","who":1}^{"end":"done after 2"}^ | One: 1 tick, 1 passed over^the specification has 1 of 2 actions of the log^
+monitor f --comp One | automaton C^signature output tick(k: Int)^states c: Int^transitions output tick pre k = c propose k := c eff c := c + 1^composition One components A: C | {"act":"tick(0)","who":0}^{"act":"other","who":1}^{"act":"tick(5)","who":0}^{"end":"done after 3"}^ | One: 1 tick, 1 passed over^the specification has 2 of 3 actions of the log^log, line 3:^    {"act":"tick(5)","who":0}^tick(5) is not enabled in A^
 -- the action at which a log ends by a fault is none that is monitored; another's fault is told with its component
-monitor f | automaton C^signature output tick(k: Int)^states c: Int^transitions output tick pre k = c propose k := c eff c := c + 1^composition One components A: C | {"act":"tick(0)","who":0}^{"act":"tick(5)","who":0}^{"end":"fault 1 in component 0 at 1"}^ | the specification has 1 of 1 actions of the log^
-monitor f | automaton A^signature output a^transitions output a^automaton B^signature input a^states n: Int^transitions input a eff n := 1 mod n^composition Two components X: A; Y: B | {"act":"a","who":0}^{"end":"done after 1"}^ | the specification has 1 of 1 actions of the log^log, line 1:^    {"act":"a","who":0}^fault 2 of a in Y: the divisor is 0^
+monitor f | automaton C^signature output tick(k: Int)^states c: Int^transitions output tick pre k = c propose k := c eff c := c + 1^composition One components A: C | {"act":"tick(0)","who":0}^{"act":"tick(5)","who":0}^{"end":"fault 1 in component 0 at 1"}^ | One: 1 tick, 0 passed over^the specification has 1 of 1 actions of the log^
+monitor f | automaton A^signature output a^transitions output a^automaton B^signature input a^states n: Int^transitions input a eff n := 1 mod n^composition Two components X: A; Y: B | {"act":"a","who":0}^{"end":"done after 1"}^ | Two: 0 a, 0 passed over^the specification has 1 of 1 actions of the log^log, line 1:^    {"act":"a","who":0}^fault 2 of a in Y: the divisor is 0^
 monitor f | automaton C^signature output tick(k: Int)^transitions output tick propose k := 0^composition One components A: C | {"act":"tick(0)","who":0}^tick^ | log:2: L1: this is an action, as a list has, and a log is wanted here: `ioac log` makes one of a list^    tick^ | L1
 monitor f --comp Two | automaton C^signature output tick^transitions output tick^composition One components A: C | {"end":"done after 0"}^ | f: E17: the object is of the composition `One`^ | E17
 monitor f | automaton C^signature output tick^transitions output tick^composition One components A: C^hidden tick | {"end":"done after 0"}^ | f: L7: `tick` is hidden, and a log shows it^ | L7
@@ -275,23 +285,13 @@ fn expect_remark<H: Abort + Threads + Wait + Clock + Sync>(
     assert!(rt; with.errors == wanted, "errors in {row}");
 }
 
-fn expect_of_source<H: Abort + Threads + Wait + Clock + Sync>(rt: &H, alloc: Global, row: &str) {
-    let columns = columns(alloc, row).expect(rt, "columns");
-    let file = column(&columns, 1).as_bytes();
-    expect_remark(rt, alloc, row, file, &columns);
-}
-
-fn expect_of_object<H: Abort + Threads + Wait + Clock + Sync>(rt: &H, alloc: Global, row: &str) {
-    let columns = columns(alloc, row).expect(rt, "columns");
-    let file = object(rt, alloc, column(&columns, 1));
-    expect_remark(rt, alloc, row, &file, &columns);
-}
-
 #[test]
 fn outcomes_are_explained(rt: HostRuntime) {
     for row in REMARKS.lines() {
         if is_row(row) {
-            expect_of_source(&rt, rt.alloc(), row);
+            let columns = columns(rt.alloc(), row).expect(&rt, "columns");
+            let file = column(&columns, 1).as_bytes();
+            expect_remark(&rt, rt.alloc(), row, file, &columns);
         }
     }
 }
@@ -300,7 +300,9 @@ fn outcomes_are_explained(rt: HostRuntime) {
 fn outcomes_of_objects_are_explained(rt: HostRuntime) {
     for row in OBJECTS.lines() {
         if is_row(row) {
-            expect_of_object(&rt, rt.alloc(), row);
+            let columns = columns(rt.alloc(), row).expect(&rt, "columns");
+            let file = object(&rt, rt.alloc(), column(&columns, 1));
+            expect_remark(&rt, rt.alloc(), row, &file, &columns);
         }
     }
 }

@@ -163,24 +163,18 @@ fn runs_go_on_from_logs(rt: HostRuntime) {
     expect_rows(&rt, rt.alloc(), COUNTS, &object);
 }
 
-/// Runs the row of a table, of which these are the first things that are told.
-fn expect_remark<H: Abort + Threads + Wait + Clock + Sync>(rt: &H, alloc: Global, row: &str) {
-    let columns = columns(alloc, row).expect(rt, "a row");
-    let ran = ran(rt, alloc, &columns, COUNTER.as_bytes());
-    let wanted = wanted_in(rt, &columns, 4);
-    assert!(rt;
-        ran.errors.as_slice().starts_with(wanted.errors.as_bytes()),
-        "errors in {row}"
-    );
-    assert!(rt; ran.output.is_empty(), "output in {row}");
-    assert!(rt; ran.status == wanted.status, "status in {row}");
-}
-
+/// Of the rows these are the first things that are told.
 #[test]
 fn logs_to_go_on_from_are_explained(rt: HostRuntime) {
     for row in REMARKS.lines() {
         if is_row(row) {
-            expect_remark(&rt, rt.alloc(), row);
+            let columns = columns(rt.alloc(), row).expect(&rt, "a row");
+            let ran = ran(&rt, rt.alloc(), &columns, COUNTER.as_bytes());
+            let wanted = wanted_in(&rt, &columns, 4);
+            let begins = ran.errors.as_slice().starts_with(wanted.errors.as_bytes());
+            assert!(rt; begins, "errors in {row}");
+            assert!(rt; ran.output.is_empty(), "output in {row}");
+            assert!(rt; ran.status == wanted.status, "status in {row}");
         }
     }
 }
@@ -224,7 +218,7 @@ fn gone_on<H: Abort + Threads + Wait + Clock + Sync>(
         log,
     };
     let ran = run_by(rt, alloc, options, &mut rack);
-    assert_eq!(rt; ran.status, 0);
+    assert!(rt; ran.status == 0);
     ran.output
 }
 

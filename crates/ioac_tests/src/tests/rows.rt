@@ -2,8 +2,9 @@
 
 use crate::tests::shelf::{COUNTER, First, expect_rows};
 use crate::tests::{
-    bounds, changes, choices, commands, composed, constants, crashes, declared, invariants, lines,
-    list_logs, lists, logs, loops, objects, pictures, proposals, requests, states, turns, watches,
+    bounds, changes, choices, commands, composed, constants, crashes, cuts, declared, invariants,
+    lines, list_logs, lists, logs, loops, objects, pictures, proposals, requests, states, turns,
+    watches,
 };
 use std::alloc::Global;
 use std::process::Abort;
@@ -17,10 +18,10 @@ const LONG: [(&str, First<'static>); 2] = [
     (lines::ROWS, First::Check),
 ];
 
-const SHORT: [(&str, First<'static>); 35] = [
+/// Those about what sources may say. All texts of a table are one tree to the prover, which reads some 250,000 bytes of a constant, and fewer of a static.
+const SOURCES: [(&str, First<'static>); 21] = [
     (lists::ROWS, First::List(COUNTER)),
     (lists::ROWS, First::Object(COUNTER)),
-    (proposals::REPLAYS, First::Object(proposals::GAME)),
     (objects::ROWS, First::Bytes),
     (changes::ROWS, First::Changed(changes::LINES)),
     (choices::ROWS, First::Changed(choices::COUNTER)),
@@ -32,25 +33,32 @@ const SHORT: [(&str, First<'static>); 35] = [
     (constants::REPLAYS, First::File),
     (crashes::CHECKS, First::Request),
     (crashes::REPLAYS, First::File),
-    (crashes::LOGS, First::All),
     (invariants::CHECKS, First::Request),
+    (loops::CHECKS, First::Request),
+    (loops::REPLAYS, First::File),
+    (loops::SUMS, First::Object(loops::SUM)),
+    (proposals::CHECKS, First::Check),
+    (proposals::REPLAYS, First::List(proposals::GAME)),
+    (proposals::REPLAYS, First::Object(proposals::GAME)),
+    (turns::ROWS, First::All),
+];
+
+/// Those about what is asked of lists, of logs, and of the program.
+const REQUESTS: [(&str, First<'static>); 16] = [
+    (crashes::LOGS, First::All),
+    (cuts::ROWS, First::Words(COUNTER)),
+    (cuts::COMPOSED, First::All),
     (invariants::REPLAYS, First::All),
     (logs::REPLAYS, First::Words(COUNTER)),
     (logs::BLANKS, First::Words(COUNTER)),
     (logs::FAULTS, First::All),
     (logs::MONITORS, First::All),
-    (loops::CHECKS, First::Request),
-    (loops::REPLAYS, First::File),
-    (loops::SUMS, First::Object(loops::SUM)),
     (list_logs::ROWS, First::Words(COUNTER)),
     (list_logs::COMPOSED, First::All),
     (pictures::ROWS, First::Words(COUNTER)),
     (pictures::COMPOSED, First::All),
-    (proposals::CHECKS, First::Check),
-    (proposals::REPLAYS, First::List(proposals::GAME)),
     (requests::ROWS, First::Request),
     (states::ROWS, First::All),
-    (turns::ROWS, First::All),
     (watches::ROWS, First::Words(watches::ONCE)),
     (commands::ROWS, First::Words(commands::TWO)),
 ];
@@ -67,8 +75,13 @@ fn expect_tables<H: Abort + Threads + Wait + Clock + Sync>(
 }
 
 #[test]
-fn short_texts_give_what_is_wanted(rt: HostRuntime) {
-    expect_tables(&rt, rt.alloc(), &SHORT);
+fn sources_give_what_is_wanted(rt: HostRuntime) {
+    expect_tables(&rt, rt.alloc(), &SOURCES);
+}
+
+#[test]
+fn requests_give_what_is_wanted(rt: HostRuntime) {
+    expect_tables(&rt, rt.alloc(), &REQUESTS);
 }
 
 #[test]

@@ -55,7 +55,7 @@ const DUMP: &str =
     "composition X\ncomponent 0 A\n  output go\n    constant 0: Bool (true)\n    precondition\n      0 Const 0: Bool (true)\n    proposals\n    effect\n";
 
 /// The words, a file, and what stands on standard input, which is read where there is something; what is printed, and the exit status.
-const GIVEN: [(&str, &str, &str, &str, Status); 20] = [
+static GIVEN: [(&str, &str, &str, &str, Status); 23] = [
     (REPLAY, COUNTER, LIST, PRINTED, Status::Done),
     ("replay f --states", COUNTER, LIST, REACHED, Status::Done),
     (
@@ -81,6 +81,9 @@ const GIVEN: [(&str, &str, &str, &str, Status); 20] = [
         Status::NotAccepted,
     ),
     ("log f", COUNTER, LIST, LOG, Status::Done),
+    ("log f --log", COUNTER, LOG, LOG, Status::Done),
+    ("replay f --until 9", COUNTER, LIST, PRINTED, Status::Done),
+    ("log f --log --until 9", COUNTER, LOG, LOG, Status::Done),
     ("monitor f", COUNTER, LOG, "monitor: ok\n", Status::Done),
     (
         "watch f --comp One",
@@ -166,14 +169,54 @@ fn replayed<H: Abort + Threads + Wait + Clock + Sync>(
 
 #[test]
 fn fails_with_its_devices(rt: HostRuntime) {
-    for (words, file, list, printed, status) in GIVEN {
+    for (words, file, list, printed, status) in &GIVEN {
         let given = Given {
-            words,
+            words: *words,
             file: file.as_bytes(),
-            list,
+            list: *list,
         };
         expect_failures(&rt, rt.alloc(), &given, printed.as_bytes(), INTERRUPTED);
-        expect_success(&rt, rt.alloc(), &given, printed.as_bytes(), status);
+        expect_success(&rt, rt.alloc(), &given, printed.as_bytes(), *status);
+    }
+}
+
+/// The words, what stands on standard input, how many of its bytes are read where one is read a call, and what is printed.
+const TAKEN: [(&str, &str, u64, &str); 4] = [
+    (
+        "replay f --until 2",
+        LIST,
+        16,
+        "tick(5)\ntick(6)\nend: done after 2\n",
+    ),
+    ("replay f --until 0", LIST, 0, "end: done after 0\n"),
+    (
+        "replay f --log --until 1",
+        LOG,
+        27,
+        "tick(5)\nend: done after 1\n",
+    ),
+    (
+        "log f --log --until 0",
+        LOG,
+        1,
+        "{\"end\":\"done after 0\"}\n",
+    ),
+];
+
+/// A device that fails behind what is taken is not asked for more, but for whether a byte follows in a log.
+#[test]
+fn takes_no_more_than_is_asked_for(rt: HostRuntime) {
+    for (words, list, reads, printed) in TAKEN {
+        let given = Given {
+            words,
+            file: COUNTER.as_bytes(),
+            list,
+        };
+        let calls = printed.len() as u64;
+        let (ran, failures) = replayed(&rt, rt.alloc(), &given, INTERRUPTED, reads, calls);
+        assert_eq!(rt; failures, 0);
+        assert_eq!(rt; ran.status, Status::Done.number());
+        assert!(rt; ran.output.as_slice() == printed.as_bytes());
     }
 }
 
@@ -185,9 +228,9 @@ fn fails_in_each_way(rt: HostRuntime) {
         file: COUNTER.as_bytes(),
         list: "reset\n",
     };
-    for kind in KINDS {
+    for kind in &KINDS {
         let printed = b"reset\nend: done after 1\n".as_slice();
-        expect_failures(&rt, rt.alloc(), &given, printed, kind);
+        expect_failures(&rt, rt.alloc(), &given, printed, *kind);
     }
 }
 
@@ -217,7 +260,7 @@ fn expect_failures<H: Abort + Threads + Wait + Clock + Sync>(
     for writes in 0..calls {
         let (ran, failures) = replayed(rt, alloc, given, kind, all, writes);
         assert_failed(rt, &ran, failures);
-        assert_eq!(rt; ran.output.len() as u64, writes);
+        assert!(rt; ran.output.len() as u64 == writes);
         assert!(rt; printed.starts_with(ran.output.as_slice()));
     }
 }
@@ -232,21 +275,21 @@ fn expect_success<H: Abort + Threads + Wait + Clock + Sync>(
 ) {
     let calls = printed.len() as u64;
     let (ran, failures) = replayed(rt, alloc, given, INTERRUPTED, reads_of(given), calls);
-    assert_eq!(rt; ran.status, status.number());
-    assert_eq!(rt; failures, 0);
+    assert!(rt; ran.status == status.number());
+    assert!(rt; failures == 0);
     assert!(rt; ran.output.as_slice() == printed);
     assert!(rt; ran.errors.is_empty());
 }
 
 fn assert_failed(rt: &impl Abort, ran: &Ran, failures: u64) {
-    assert_eq!(rt; ran.status, Status::Unable.number());
-    assert_eq!(rt; failures, 1);
+    assert!(rt; ran.status == Status::Unable.number());
+    assert!(rt; failures == 1);
     assert!(rt; ran.errors.as_slice() == b"L8\n".as_slice());
 }
 
 /// The words, a file, standard input, and what stands in the end in rooms of these lengths for what is printed and for what is told of
 /// errors. They were zeros.
-const ROOMS: [(&str, &str, &str, &[u8], &[u8]); 13] = [
+static ROOMS: [(&str, &str, &str, &[u8], &[u8]); 13] = [
     ("check f", SMALL, "", b"ok", b"L8\n\0"),
     ("compile f o", COUNTER, "", b"ok", b"L8\n\0"),
     ("dump f", OBJECT, "", b"comp", b"L8\n\0"),
@@ -289,11 +332,11 @@ fn fills<H: Abort + Threads + Wait + Clock + Sync>(
 
 #[test]
 fn full_devices_fail(rt: HostRuntime) {
-    for (words, file, list, printed, told) in ROOMS {
+    for (words, file, list, printed, told) in &ROOMS {
         let given = Given {
-            words,
+            words: *words,
             file: file.as_bytes(),
-            list,
+            list: *list,
         };
         assert!(rt; fills(&rt, rt.alloc(), &given, printed, told), "{words}");
     }

@@ -12,6 +12,7 @@ returns-clause-some c =
       sym (raw_values-rows found (codes "comp")) ∙ sym c.in_ok-compositions.ensures,
       sym c.is_set-first.ensures,
       sym c.is_set-counts.ensures,
+      sym c.asks_json-json.ensures,
     )
 
 pub returns-in_err-file-clause-none : goal.returns-in_err-file-clause-none

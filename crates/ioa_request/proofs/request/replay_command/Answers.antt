@@ -1,25 +1,31 @@
-use Rattle.std.proofs.Common.{◌≡◌, Bool, false, ◌||◌, refl, ap₂, ◌∙◌}
-use Rattle.std.proofs.lemmas.Result.{IfOk-weaker}
-use Rattle.clap.specs.Words.{with_rule}
+use Rattle.std.proofs.Common.{codes}
+use Rattle.clap.specs.Words.{App, new_app, with_rule}
+use Rattle.ioa_request.specs.CommandLine.{comp_rule, explain_rule, file_rule, invariants_rule, log_rule, states_rule, until_rule}
 use Rattle.ioa_request.proofs.request.replay_command.Goals as goal
 
 pub returns-clause-app : goal.returns-clause-app
 returns-clause-app c =
-    let with_file = c.in_ok-arg.ensures.shape c.file_argument.ensures.local ∙ ap₂ with_rule c.described_replay.ensures.app c.file_argument.ensures.rule in
-    let with_composition = c.in_ok-arg-2.ensures.shape c.composition_option.ensures.local ∙ ap₂ with_rule with_file c.composition_option.ensures.rule in
-    let with_log = c.in_ok-arg-3.ensures.shape c.log_flag.ensures.local ∙ ap₂ with_rule with_composition c.log_flag.ensures.rule in
-    let with_invariants = c.in_ok-arg-4.ensures.shape c.invariants_flag.ensures.local ∙ ap₂ with_rule with_log c.invariants_flag.ensures.rule in
-    let with_states = c.in_ok-arg-5.ensures.shape c.states_flag.ensures.local ∙ ap₂ with_rule with_invariants c.states_flag.ensures.rule in
-    IfOk-weaker c.arg-6.result _ _ (λ command h. h.shape c.explain_flag.ensures.local ∙ ap₂ with_rule with_states c.explain_flag.ensures.rule) c.arg-6.ensures
-
-neither : (a b : Bool) → a ≡ false → b ≡ false → (a || b) ≡ false
-neither a b x y = rw x (rw y refl)
+    let none : App = new_app (codes "replay") in
+    let has_one : App = with_rule none file_rule in
+    let one = c.taking-command.ensures.app none file_rule c.described_replay.ensures.app c.file_argument.ensures.local c.file_argument.ensures.rule in
+    let has_two : App = with_rule has_one comp_rule in
+    let two = c.taking-command-2.ensures.app has_one comp_rule one c.composition_option.ensures.local c.composition_option.ensures.rule in
+    let has_three : App = with_rule has_two log_rule in
+    let three = c.taking-command-3.ensures.app has_two log_rule two c.log_flag.ensures.local c.log_flag.ensures.rule in
+    let has_four : App = with_rule has_three invariants_rule in
+    let four = c.taking-command-4.ensures.app has_three invariants_rule three c.invariants_flag.ensures.local c.invariants_flag.ensures.rule in
+    let has_five : App = with_rule has_four states_rule in
+    let five = c.taking-command-5.ensures.app has_four states_rule four c.states_flag.ensures.local c.states_flag.ensures.rule in
+    let has_six : App = with_rule has_five until_rule in
+    let six = c.taking-command-6.ensures.app has_five until_rule five c.until_option.ensures.local c.until_option.ensures.rule in
+    c.taking.ensures.app has_six explain_rule six c.explain_flag.ensures.local c.explain_flag.ensures.rule
 
 pub returns-clause-local : goal.returns-clause-local
 returns-clause-local c =
-    let with_file = c.in_ok-arg.ensures.globals ∙ neither _ _ c.described_replay.ensures.local c.file_argument.ensures.local in
-    let with_composition = c.in_ok-arg-2.ensures.globals ∙ neither _ _ with_file c.composition_option.ensures.local in
-    let with_log = c.in_ok-arg-3.ensures.globals ∙ neither _ _ with_composition c.log_flag.ensures.local in
-    let with_invariants = c.in_ok-arg-4.ensures.globals ∙ neither _ _ with_log c.invariants_flag.ensures.local in
-    let with_states = c.in_ok-arg-5.ensures.globals ∙ neither _ _ with_invariants c.states_flag.ensures.local in
-    IfOk-weaker c.arg-6.result _ _ (λ command h. h.globals ∙ neither _ _ with_states c.explain_flag.ensures.local) c.arg-6.ensures
+    let one = c.taking-command.ensures.local c.described_replay.ensures.local c.file_argument.ensures.local in
+    let two = c.taking-command-2.ensures.local one c.composition_option.ensures.local in
+    let three = c.taking-command-3.ensures.local two c.log_flag.ensures.local in
+    let four = c.taking-command-4.ensures.local three c.invariants_flag.ensures.local in
+    let five = c.taking-command-5.ensures.local four c.states_flag.ensures.local in
+    let six = c.taking-command-6.ensures.local five c.until_option.ensures.local in
+    c.taking.ensures.local six c.explain_flag.ensures.local

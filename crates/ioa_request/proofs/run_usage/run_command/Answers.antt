@@ -1,39 +1,55 @@
-use Rattle.std.proofs.Common.{◌≡◌, Bool, false, ◌||◌, refl, ap₂, ◌∙◌}
-use Rattle.std.proofs.lemmas.Result.{IfOk-weaker}
-use Rattle.clap.specs.Words.{with_rule}
+use Rattle.std.proofs.Common.{codes}
+use Rattle.clap.specs.Words.{App, new_app, with_rule}
+use Rattle.ioa_request.specs.CommandLine.{alone_rule, comp_rule, explain_rule, file_rule, inputs_rule, invariants_rule, keep_rule, log_rule, monitor_rule, reports_rule, resume_rule, seed_rule, seeds_rule, turns_rule, words_rule}
 use Rattle.ioa_request.proofs.run_usage.run_command.Goals as goal
 
 pub returns-clause-app : goal.returns-clause-app
 returns-clause-app c =
-    let with_file = c.in_ok-arg.ensures.shape c.file_argument.ensures.local ∙ ap₂ with_rule c.described_run.ensures.app c.file_argument.ensures.rule in
-    let with_composition = c.in_ok-arg-2.ensures.shape c.composition_option.ensures.local ∙ ap₂ with_rule with_file c.composition_option.ensures.rule in
-    let with_alone = c.in_ok-arg-3.ensures.shape c.alone_flag.ensures.local ∙ ap₂ with_rule with_composition c.alone_flag.ensures.rule in
-    let with_turns = c.in_ok-arg-4.ensures.shape c.turns_option.ensures.local ∙ ap₂ with_rule with_alone c.turns_option.ensures.rule in
-    let with_seed = c.in_ok-arg-5.ensures.shape c.seed_option.ensures.local ∙ ap₂ with_rule with_turns c.seed_option.ensures.rule in
-    let with_words = c.in_ok-arg-6.ensures.shape c.words_option.ensures.local ∙ ap₂ with_rule with_seed c.words_option.ensures.rule in
-    let with_seeds = c.in_ok-arg-7.ensures.shape c.seeds_option.ensures.local ∙ ap₂ with_rule with_words c.seeds_option.ensures.rule in
-    let with_monitor = c.in_ok-arg-8.ensures.shape c.monitor_option.ensures.local ∙ ap₂ with_rule with_seeds c.monitor_option.ensures.rule in
-    let with_inputs = c.in_ok-arg-9.ensures.shape c.inputs_option.ensures.local ∙ ap₂ with_rule with_monitor c.inputs_option.ensures.rule in
-    let with_resume = c.in_ok-arg-10.ensures.shape c.resume_option.ensures.local ∙ ap₂ with_rule with_inputs c.resume_option.ensures.rule in
-    let with_log = c.in_ok-arg-11.ensures.shape c.log_flag.ensures.local ∙ ap₂ with_rule with_resume c.log_flag.ensures.rule in
-    let with_reports = c.in_ok-arg-12.ensures.shape c.reports_flag.ensures.local ∙ ap₂ with_rule with_log c.reports_flag.ensures.rule in
-    IfOk-weaker c.arg-13.result _ _ (λ command h. h.shape c.explain_flag.ensures.local ∙ ap₂ with_rule with_reports c.explain_flag.ensures.rule) c.arg-13.ensures
-
-neither : (a b : Bool) → a ≡ false → b ≡ false → (a || b) ≡ false
-neither a b x y = rw x (rw y refl)
+    let none : App = new_app (codes "run") in
+    let has_one : App = with_rule none file_rule in
+    let one = c.taking-command.ensures.app none file_rule c.described_run.ensures.app c.file_argument.ensures.local c.file_argument.ensures.rule in
+    let has_two : App = with_rule has_one comp_rule in
+    let two = c.taking-command-2.ensures.app has_one comp_rule one c.composition_option.ensures.local c.composition_option.ensures.rule in
+    let has_three : App = with_rule has_two alone_rule in
+    let three = c.taking-command-3.ensures.app has_two alone_rule two c.alone_flag.ensures.local c.alone_flag.ensures.rule in
+    let has_four : App = with_rule has_three turns_rule in
+    let four = c.taking-command-4.ensures.app has_three turns_rule three c.turns_option.ensures.local c.turns_option.ensures.rule in
+    let has_five : App = with_rule has_four seed_rule in
+    let five = c.taking-command-5.ensures.app has_four seed_rule four c.seed_option.ensures.local c.seed_option.ensures.rule in
+    let has_six : App = with_rule has_five words_rule in
+    let six = c.taking-command-6.ensures.app has_five words_rule five c.words_option.ensures.local c.words_option.ensures.rule in
+    let has_seven : App = with_rule has_six seeds_rule in
+    let seven = c.taking-command-7.ensures.app has_six seeds_rule six c.seeds_option.ensures.local c.seeds_option.ensures.rule in
+    let has_eight : App = with_rule has_seven monitor_rule in
+    let eight = c.taking-command-8.ensures.app has_seven monitor_rule seven c.monitor_option.ensures.local c.monitor_option.ensures.rule in
+    let has_nine : App = with_rule has_eight invariants_rule in
+    let nine = c.taking-command-9.ensures.app has_eight invariants_rule eight c.invariants_flag.ensures.local c.invariants_flag.ensures.rule in
+    let has_ten : App = with_rule has_nine keep_rule in
+    let ten = c.taking-command-10.ensures.app has_nine keep_rule nine c.keep_option.ensures.local c.keep_option.ensures.rule in
+    let has_eleven : App = with_rule has_ten inputs_rule in
+    let eleven = c.taking-command-11.ensures.app has_ten inputs_rule ten c.inputs_option.ensures.local c.inputs_option.ensures.rule in
+    let has_twelve : App = with_rule has_eleven resume_rule in
+    let twelve = c.taking-command-12.ensures.app has_eleven resume_rule eleven c.resume_option.ensures.local c.resume_option.ensures.rule in
+    let has_thirteen : App = with_rule has_twelve log_rule in
+    let thirteen = c.taking-command-13.ensures.app has_twelve log_rule twelve c.log_flag.ensures.local c.log_flag.ensures.rule in
+    let has_fourteen : App = with_rule has_thirteen reports_rule in
+    let fourteen = c.taking-command-14.ensures.app has_thirteen reports_rule thirteen c.reports_flag.ensures.local c.reports_flag.ensures.rule in
+    c.taking.ensures.app has_fourteen explain_rule fourteen c.explain_flag.ensures.local c.explain_flag.ensures.rule
 
 pub returns-clause-local : goal.returns-clause-local
 returns-clause-local c =
-    let with_file = c.in_ok-arg.ensures.globals ∙ neither _ _ c.described_run.ensures.local c.file_argument.ensures.local in
-    let with_composition = c.in_ok-arg-2.ensures.globals ∙ neither _ _ with_file c.composition_option.ensures.local in
-    let with_alone = c.in_ok-arg-3.ensures.globals ∙ neither _ _ with_composition c.alone_flag.ensures.local in
-    let with_turns = c.in_ok-arg-4.ensures.globals ∙ neither _ _ with_alone c.turns_option.ensures.local in
-    let with_seed = c.in_ok-arg-5.ensures.globals ∙ neither _ _ with_turns c.seed_option.ensures.local in
-    let with_words = c.in_ok-arg-6.ensures.globals ∙ neither _ _ with_seed c.words_option.ensures.local in
-    let with_seeds = c.in_ok-arg-7.ensures.globals ∙ neither _ _ with_words c.seeds_option.ensures.local in
-    let with_monitor = c.in_ok-arg-8.ensures.globals ∙ neither _ _ with_seeds c.monitor_option.ensures.local in
-    let with_inputs = c.in_ok-arg-9.ensures.globals ∙ neither _ _ with_monitor c.inputs_option.ensures.local in
-    let with_resume = c.in_ok-arg-10.ensures.globals ∙ neither _ _ with_inputs c.resume_option.ensures.local in
-    let with_log = c.in_ok-arg-11.ensures.globals ∙ neither _ _ with_resume c.log_flag.ensures.local in
-    let with_reports = c.in_ok-arg-12.ensures.globals ∙ neither _ _ with_log c.reports_flag.ensures.local in
-    IfOk-weaker c.arg-13.result _ _ (λ command h. h.globals ∙ neither _ _ with_reports c.explain_flag.ensures.local) c.arg-13.ensures
+    let one = c.taking-command.ensures.local c.described_run.ensures.local c.file_argument.ensures.local in
+    let two = c.taking-command-2.ensures.local one c.composition_option.ensures.local in
+    let three = c.taking-command-3.ensures.local two c.alone_flag.ensures.local in
+    let four = c.taking-command-4.ensures.local three c.turns_option.ensures.local in
+    let five = c.taking-command-5.ensures.local four c.seed_option.ensures.local in
+    let six = c.taking-command-6.ensures.local five c.words_option.ensures.local in
+    let seven = c.taking-command-7.ensures.local six c.seeds_option.ensures.local in
+    let eight = c.taking-command-8.ensures.local seven c.monitor_option.ensures.local in
+    let nine = c.taking-command-9.ensures.local eight c.invariants_flag.ensures.local in
+    let ten = c.taking-command-10.ensures.local nine c.keep_option.ensures.local in
+    let eleven = c.taking-command-11.ensures.local ten c.inputs_option.ensures.local in
+    let twelve = c.taking-command-12.ensures.local eleven c.resume_option.ensures.local in
+    let thirteen = c.taking-command-13.ensures.local twelve c.log_flag.ensures.local in
+    let fourteen = c.taking-command-14.ensures.local thirteen c.reports_flag.ensures.local in
+    c.taking.ensures.local fourteen c.explain_flag.ensures.local

@@ -1,21 +1,25 @@
-use Rattle.std.proofs.Common.{◌≡◌, Bool, false, ◌||◌, refl, ap₂, ◌∙◌}
-use Rattle.std.proofs.lemmas.Result.{IfOk-weaker}
-use Rattle.clap.specs.Words.{with_rule}
+use Rattle.std.proofs.Common.{codes}
+use Rattle.clap.specs.Words.{App, new_app, with_rule}
+use Rattle.ioa_request.specs.CommandLine.{explain_rule, file_rule, first_rule, json_rule, specification_rule}
 use Rattle.ioa_request.proofs.watch_usage.watch_command.Goals as goal
 
 pub returns-clause-app : goal.returns-clause-app
 returns-clause-app c =
-    let with_file = c.in_ok-arg.ensures.shape c.source_argument.ensures.local ∙ ap₂ with_rule c.described_watch.ensures.app c.source_argument.ensures.rule in
-    let with_specification = c.in_ok-arg-2.ensures.shape c.specification_option.ensures.local ∙ ap₂ with_rule with_file c.specification_option.ensures.rule in
-    let with_first = c.in_ok-arg-3.ensures.shape c.first_flag.ensures.local ∙ ap₂ with_rule with_specification c.first_flag.ensures.rule in
-    IfOk-weaker c.arg-4.result _ _ (λ command h. h.shape c.explain_flag.ensures.local ∙ ap₂ with_rule with_first c.explain_flag.ensures.rule) c.arg-4.ensures
-
-neither : (a b : Bool) → a ≡ false → b ≡ false → (a || b) ≡ false
-neither a b x y = rw x (rw y refl)
+    let none : App = new_app (codes "watch") in
+    let has_one : App = with_rule none file_rule in
+    let one = c.taking-command.ensures.app none file_rule c.described_watch.ensures.app c.source_argument.ensures.local c.source_argument.ensures.rule in
+    let has_two : App = with_rule has_one specification_rule in
+    let two = c.taking-command-2.ensures.app has_one specification_rule one c.specification_option.ensures.local c.specification_option.ensures.rule in
+    let has_three : App = with_rule has_two first_rule in
+    let three = c.taking-command-3.ensures.app has_two first_rule two c.first_flag.ensures.local c.first_flag.ensures.rule in
+    let has_four : App = with_rule has_three json_rule in
+    let four = c.taking-command-4.ensures.app has_three json_rule three c.json_flag.ensures.local c.json_flag.ensures.rule in
+    c.taking.ensures.app has_four explain_rule four c.explain_flag.ensures.local c.explain_flag.ensures.rule
 
 pub returns-clause-local : goal.returns-clause-local
 returns-clause-local c =
-    let with_file = c.in_ok-arg.ensures.globals ∙ neither _ _ c.described_watch.ensures.local c.source_argument.ensures.local in
-    let with_specification = c.in_ok-arg-2.ensures.globals ∙ neither _ _ with_file c.specification_option.ensures.local in
-    let with_first = c.in_ok-arg-3.ensures.globals ∙ neither _ _ with_specification c.first_flag.ensures.local in
-    IfOk-weaker c.arg-4.result _ _ (λ command h. h.globals ∙ neither _ _ with_first c.explain_flag.ensures.local) c.arg-4.ensures
+    let one = c.taking-command.ensures.local c.described_watch.ensures.local c.source_argument.ensures.local in
+    let two = c.taking-command-2.ensures.local one c.specification_option.ensures.local in
+    let three = c.taking-command-3.ensures.local two c.first_flag.ensures.local in
+    let four = c.taking-command-4.ensures.local three c.json_flag.ensures.local in
+    c.taking.ensures.local four c.explain_flag.ensures.local

@@ -27,7 +27,7 @@ pub returns-in_err-program-clause-unwritten : goal.returns-in_err-program-clause
 returns-in_err-program-clause-unwritten g c =
     let e = err_from_is_err_and c.from_residual.result c.from_residual.ensures.1 in
     err_so c.from_residual.result e.0 _ _ e.1 e.2
-    (kept (BeginsMonitorOf c.args.text.now (option_copied c.args.composition) (g.R.Read.remaining c.args.input.now)) _ _ c.in_err-program.field-0.0
+    (kept (BeginsMonitorOf c.args.json c.args.text.now (option_copied c.args.composition) (g.R.Read.remaining c.args.input.now)) _ _ c.in_err-program.field-0.0
     (keeps_same (g.W.Write.contents c.args.output.now)))
 
 pub returns-then-hides_actions-clause-refused : goal.returns-then-hides_actions-clause-refused
@@ -79,7 +79,7 @@ returns-in_err-send_all-clause-unwritten g c =
       IfSome_then (g.R.Read.remaining c.args.input.now) (c.in_ok-answer.ensures.answers (as_compiled of.0) runs)
           (λ xs k.
           let told = answer_as of.0 xs (option_map ending_of c.in_ok-answer.answer) k in
-          let begun = subst (λ t. (n : ℕ) × Appends (g.W.Write.contents c.args.output.now) (g.W.Write.contents c.send_all.new.output) (take n t)) (line ∙ ap answer_line told.2)
+          let begun = subst (λ t. (n : ℕ) × Appends (g.W.Write.contents c.args.output.now) (g.W.Write.contents c.send_all.new.output) (take n t)) (line ∙ ap (answer_line c.args.json) told.2)
           c.in_err-send_all.ensures.begun in
           (seen, (told.0, told.1, begun))),
     ))

@@ -1,67 +1,60 @@
-use Rattle.std.proofs.Common.{◌∙◌, ℕ, List, ap, inl, length, subst, sym, take}
-use Rattle.std.specs.Io.KnownBytes.{Appends}
+use Rattle.std.proofs.Common.{◌∙◌, ◌⊎◌, inl, inr, refl}
 use Rattle.std.proofs.lemmas.Result.{err_from_is_err_and}
-use Rattle.ioa_serving.specs.declared.failure.Failure.{Failure}
 use Rattle.ioa_log.specs.Failing.{HasFailed}
+use Rattle.ioa_serving.specs.Devices.{Files, files}
 use Rattle.ioa_serving.proofs.Kept.{keeps_same}
 use Rattle.ioa_serving.proofs.Refused.{err_so}
 use Rattle.ioa_serving.proofs.SeedCuts.{lent_count}
-use Rattle.ioa_serving.proofs.SeedsServed.{addable, counted_all, cut_in_counts, names_count, served, uncounted, unserved}
+use Rattle.ioa_serving.proofs.SeedsServed.{names_count, served, unkept, unserved}
+use Rattle.ioa_serving.proofs.Shortest.{unchanged}
 use Rattle.ioa_serving.proofs.seeds.run_seeds_file.Goals as goal
 
 pub returns-in_err-sown-clause-refused : goal.returns-in_err-sown-clause-refused
 returns-in_err-sown-clause-refused g c =
     let e = err_from_is_err_and c.from_residual.result c.from_residual.ensures.1 in
-    err_so c.from_residual.result e.0 _ _ e.1 e.2 (inl (c.in_err-sown.ensures.refused, keeps_same (g.W.Write.contents c.args.output.now)))
+    err_so c.from_residual.result e.0 _ _ e.1 e.2 (refl, inl (unrun c.in_err-sown.ensures.refused, keeps_same (g.W.Write.contents c.args.output.now)))
+  where
+    unrun : {A B C : Type 0} → A ⊎ B → A ⊎ (B ⊎ C)
+    unrun (inl k) = inl k
+    unrun (inr k) = inr (inl k)
 
-pub tell_runs-requires : goal.tell_runs-requires
-tell_runs-requires g c =
-    names_count (g.F.Store.holds c.args.store.now) (g.F.Store.lacks c.args.store.now) c.args.seeds.now c.in_ok-sown.sown c.in_ok-sown.ensures.sown (g.W.Write.contents c.args.output.now) (g.W.Write.contents c.args.output.now)
-    ∙ lent_count c.args.seeds.now.monitors.now
+pub returns-in_err-ask_keep-clause-refused : goal.returns-in_err-ask_keep-clause-refused
+returns-in_err-ask_keep-clause-refused g c =
+    let e = err_from_is_err_and c.from_residual-in_err-ask_keep.result c.from_residual-in_err-ask_keep.ensures.1 in
+    err_so c.from_residual-in_err-ask_keep.result e.0 _ _ e.1 e.2 (refl, inl (inr (inr c.in_err-ask_keep.ensures.refused), keeps_same (g.W.Write.contents c.args.output.now)))
 
-pub returns-in_err-counts-clause-refused : goal.returns-in_err-counts-clause-refused
-returns-in_err-counts-clause-refused g c =
-    let e = err_from_is_err_and c.from_residual-in_err-counts.result c.from_residual-in_err-counts.ensures.1 in
-    err_so c.from_residual-in_err-counts.result e.0 _ _ e.1 e.2
-    (unserved (g.F.Store.holds c.args.store.now) (g.F.Store.lacks c.args.store.now) c.args.seeds.now c.in_ok-sown.sown c.in_ok-sown.ensures.sown (g.W.Write.contents c.args.output.now) (g.W.Write.contents c.tell_runs.new.output)
-    (HasFailed (g.W.Device.failure_count c.args.output.now) (g.W.Device.failure_count c.tell_runs.new.output)) c.in_err-counts.field-0.0 c.in_err-counts.ensures.refused)
+pub tell_all-requires : goal.tell_all-requires
+tell_all-requires g c =
+    names_count (g.F.Store.holds c.args.store.now) c.args.seeds.now c.in_ok-sown.sown c.in_ok-sown.ensures.sown ∙ lent_count c.args.seeds.now.monitors.now
 
-pub counts_text-requires-clause-sums : goal.counts_text-requires-clause-sums
-counts_text-requires-clause-sums g c =
-    let told = c.in_ok-counts.ensures.told in
-    addable (g.F.Store.holds c.args.store.now) (g.F.Store.lacks c.args.store.now) c.args.seeds.now c.in_ok-sown.sown c.in_ok-sown.ensures.sown (g.W.Write.contents c.args.output.now) (g.W.Write.contents c.tell_runs.new.output) c.in_ok-counts.counts told.0 told.1
+pub returns-in_err-tally-clause-refused : goal.returns-in_err-tally-clause-refused
+returns-in_err-tally-clause-refused g c =
+    let e = err_from_is_err_and c.from_residual-in_err-tally.result c.from_residual-in_err-tally.ensures.1 in
+    let f : Files = files g.F.Store.holds g.F.Store.lacks g.F.Store.begins g.F.Store.bars g.F.Store.saves c.args.store.now c.args.store.now in
+    err_so c.from_residual-in_err-tally.result e.0 _ _ e.1 e.2
+    (unserved f c.args.seeds.now c.in_ok-sown.sown c.in_ok-sown.ensures.sown c.in_ok-ask_keep.ensures.ok (g.W.Write.contents c.args.output.now) (g.W.Write.contents c.tell_all.new.output)
+    (HasFailed (g.W.Device.failure_count c.args.output.now) (g.W.Device.failure_count c.tell_all.new.output)) c.in_err-tally.field-0.0 refl c.in_err-tally.ensures.refused)
 
-pub counts_text-requires-clause-counted : goal.counts_text-requires-clause-counted
-counts_text-requires-clause-counted g c =
-    let told = c.in_ok-counts.ensures.told in
-    counted_all (g.F.Store.holds c.args.store.now) (g.F.Store.lacks c.args.store.now) c.args.seeds.now c.in_ok-sown.sown c.in_ok-sown.ensures.sown (g.W.Write.contents c.args.output.now) (g.W.Write.contents c.tell_runs.new.output) c.in_ok-counts.counts told.0 told.1
-    ∙ lent_count c.args.seeds.now.monitors.now
-
-pub returns-in_err-line-clause-refused : goal.returns-in_err-line-clause-refused
-returns-in_err-line-clause-refused g c =
-    let e = err_from_is_err_and c.from_residual-in_err-line.result c.from_residual-in_err-line.ensures.1 in
-    let told = c.in_ok-counts.ensures.told in
-    err_so c.from_residual-in_err-line.result e.0 _ _ e.1 e.2
-    (uncounted (g.F.Store.holds c.args.store.now) (g.F.Store.lacks c.args.store.now) c.args.seeds.now c.in_ok-sown.sown c.in_ok-sown.ensures.sown (g.W.Write.contents c.args.output.now) (g.W.Write.contents c.tell_runs.new.output) c.in_ok-counts.counts told.0 told.1
-    (HasFailed (g.W.Device.failure_count c.args.output.now) (g.W.Device.failure_count c.tell_runs.new.output)))
-
-pub returns-in_err-send_all-clause-refused : goal.returns-in_err-send_all-clause-refused
-returns-in_err-send_all-clause-refused g c =
-    let e = err_from_is_err_and c.from_residual-in_err-send_all.result c.from_residual-in_err-send_all.ensures.1 in
-    let told = c.in_ok-counts.ensures.told in
-    err_so c.from_residual-in_err-send_all.result e.0 _ _ e.1 (e.2 ∙ ap Failure.List c.in_err-send_all.ensures.io.0)
-    (cut_in_counts (g.F.Store.holds c.args.store.now) (g.F.Store.lacks c.args.store.now) c.args.seeds.now c.in_ok-sown.sown c.in_ok-sown.ensures.sown (g.W.Write.contents c.args.output.now) (g.W.Write.contents c.tell_runs.new.output) c.in_ok-counts.counts told.0 told.1
-    (HasFailed (g.W.Device.failure_count c.args.output.now) (g.W.Device.failure_count c.send_all.new.output)) (g.W.Write.contents c.send_all.new.output)
-    (subst (λ n. HasFailed n (g.W.Device.failure_count c.send_all.new.output)) (c.in_ok-counts.ensures.passed (λ e. cc)) c.in_err-send_all.ensures.io.1)
-    (subst (λ (t : List ℕ). (n : ℕ) × Appends (g.W.Write.contents c.tell_runs.new.output) (g.W.Write.contents c.send_all.new.output) (take n t)) (c.as_bytes.ensures.value ∙ c.in_ok-line.ensures)
-    c.in_err-send_all.ensures.begun))
+pub returns-in_err-keep-clause-refused : goal.returns-in_err-keep-clause-refused
+returns-in_err-keep-clause-refused g c =
+    let e = err_from_is_err_and c.from_residual-in_err-keep.result c.from_residual-in_err-keep.ensures.1 in
+    let f : Files = files g.F.Store.holds g.F.Store.lacks g.F.Store.begins g.F.Store.bars g.F.Store.saves c.args.store.now c.keep.new.store in
+    let told = c.in_ok-tally.ensures.told in
+    err_so c.from_residual-in_err-keep.result e.0 _ _ e.1 e.2
+    (unkept f c.args.seeds.now c.in_ok-sown.sown c.in_ok-sown.ensures.sown c.in_ok-ask_keep.ensures.ok (g.W.Write.contents c.args.output.now) (g.W.Write.contents c.tell_all.new.output)
+    c.in_ok-tally.tally told.0 told.1 (HasFailed (g.W.Device.failure_count c.args.output.now) (g.W.Device.failure_count c.tell_all.new.output)) c.in_err-keep.field-0.0
+    c.in_err-keep.ensures.unchanged c.in_err-keep.ensures.refused)
 
 pub returns-clause-served : goal.returns-clause-served
 returns-clause-served g c =
-    let told = c.in_ok-counts.ensures.told in (
-      served (g.F.Store.holds c.args.store.now) (g.F.Store.lacks c.args.store.now) c.args.seeds.now c.in_ok-sown.sown c.in_ok-sown.ensures.sown (g.W.Write.contents c.args.output.now) (g.W.Write.contents c.tell_runs.new.output) c.in_ok-counts.counts told.0 told.1
-          (g.W.Write.contents c.send_all.new.output) c.silent.result.status
-          (subst (λ (t : List ℕ). Appends (g.W.Write.contents c.tell_runs.new.output) (g.W.Write.contents c.send_all.new.output) t) (c.as_bytes.ensures.value ∙ c.in_ok-line.ensures) c.in_ok-send_all.ensures.ok)
-          (c.silent.ensures.status ∙ c.status.ensures),
+    let f : Files = files g.F.Store.holds g.F.Store.lacks g.F.Store.begins g.F.Store.bars g.F.Store.saves c.args.store.now c.keep.new.store in
+    let told = c.in_ok-tally.ensures.told in (
+      served f c.args.seeds.now c.in_ok-sown.sown c.in_ok-sown.ensures.sown c.in_ok-ask_keep.ensures.ok (g.W.Write.contents c.args.output.now) (g.W.Write.contents c.tell_all.new.output)
+          c.in_ok-tally.tally told.0 told.1 c.types-types.result.now c.silent.result.status c.types-types.ensures.value c.in_ok-keep.ensures.kept (c.silent.ensures.status ∙ c.status.ensures),
       c.silent.ensures.reports,
     )
+
+pub returns-clause-kept : goal.returns-clause-kept
+returns-clause-kept g c =
+    let f : Files = files g.F.Store.holds g.F.Store.lacks g.F.Store.begins g.F.Store.bars g.F.Store.saves c.args.store.now c.keep.new.store in
+    unchanged f c.types-types.result.now c.args.seeds.now.keep _ c.in_ok-keep.ensures.kept

@@ -1,11 +1,11 @@
-use Rattle.std.proofs.Common.{◌≡◌, ◌∙◌, ◌+◌, ◌++◌, ◌∷◌, ◌≤◌, ◌^◌, List, [], ap, arith, inl, inr, length, length-append, refl, subst, suc, sym}
+use Rattle.std.proofs.Common.{◌≡◌, ◌∙◌, ◌+◌, ◌++◌, ◌∷◌, ◌≤◌, ◌^◌, ℕ, List, [], ap, arith, inl, inr, length, length-append, refl, subst, suc, sym}
 use Rattle.std.proofs.lemmas.List.{length-map}
 use Rattle.std.proofs.lemmas.Result.{err_from_is_err_and}
 use Rattle.ioa_system.specs.Logs.{logged}
 use Rattle.ioa_log.specs.Failing.{HasFailed}
-use Rattle.ioa_serving.specs.declared.seed_counts.Counts.{Counts}
-use Rattle.ioa_serving.specs.Seeds.{Judged, seeds_count}
-use Rattle.ioa_serving.specs.SeedRuns.{IsCountOf, IsTold, judged_of}
+use Rattle.ioa_serving.specs.declared.seed_tally.Tally.{Tally}
+use Rattle.ioa_serving.specs.Seeds.{Judged, monitors_of, seed_lines, seeds_count}
+use Rattle.ioa_serving.specs.SeedRuns.{IsTallyOf, IsTold, judged_of}
 use Rattle.ioa_serving.proofs.Kept.{keeps_same}
 use Rattle.ioa_serving.proofs.Refused.{err_so}
 use Rattle.ioa_serving.proofs.SeedCuts.{answers_count, cut_on, refused_next, runs_on, told_on}
@@ -45,7 +45,7 @@ loop-number-preserved g c =
       next = next;
       few = few;
       runs = runs_on c.args.sown.now c.args.seeds.now (g.W.Write.contents c.args.output.now) (g.W.Write.contents c.loop-number.output) so.judged c.loop-number.number so.next so.few so.runs so.output j c.in_ok-judged.ensures.judged;
-      counted = c.add.ensures (length c.args.sown.now.specifications.items) so.judged so.counted;
+      tallied = c.add.ensures (length c.args.sown.now.specifications.items) so.judged so.tallied;
       output = told_on c.args.sown.now c.args.seeds.now (g.W.Write.contents c.args.output.now) (g.W.Write.contents c.loop-number.output) so.judged c.loop-number.number so.next so.few so.runs so.output j c.in_ok-judged.ensures.judged
           (g.W.Write.contents c.tell_run.new.output) c.in_ok-tell_run.ensures.ok;
       passed = c.in_ok-tell_run.ensures.passed (λ e. cc) ∙ so.passed;
@@ -58,36 +58,37 @@ pub add-requires-clause-counted : goal.add-requires-clause-counted
 add-requires-clause-counted g c =
     let so = c.loop-number.invariant in
     let within : length so.judged ≤ 2 ^ 64 = omega (arith, so.next, so.few) in
-    (length c.args.sown.now.specifications.items, so.judged, so.counted, within)
+    (length c.args.sown.now.specifications.items, so.judged, so.tallied.0, within)
 
 pub add-requires-clause-answered : goal.add-requires-clause-answered
 add-requires-clause-answered g c =
     let so = c.loop-number.invariant in
     let many = answers_count c.args.sown.now c.args.seeds.now.run.turns c.loop-number.number c.in_ok-judged.judged c.in_ok-judged.ensures.judged in
-    let counts = ap length so.counted.refusals ∙ refusals_count (length c.args.sown.now.specifications.items) so.judged in
+    let counts = ap length so.tallied.0.refusals ∙ refusals_count (length c.args.sown.now.specifications.items) so.judged in
     omega (arith, many, counts)
 
 pub returns-clause-told : goal.returns-clause-told
 returns-clause-told g c =
     let so = c.loop-number.invariant in
+    let lines : List Judged → List ℕ = λ js. seed_lines (monitors_of c.args.seeds.now) c.args.seeds.now.first js in
     elim c.loop-number-test.branch [
       | else-loop-number-test w ↦
           let count : length so.judged ≡ seeds_count c.args.seeds.now = omega (arith, so.next, so.few, w.loop-number-test.false) in
           let within : length so.judged ≤ 2 ^ 64 = omega (arith, so.next, so.few) in (
             so.judged,
-            subst (λ (k : Counts). IsTold c.args.sown.now c.args.seeds.now (g.W.Write.contents c.args.output.now) (g.W.Write.contents c.loop-number-test.output) k so.judged) (sym w.counts-is)
-                (subst (λ (out : g.row.W.Denot). IsTold c.args.sown.now c.args.seeds.now (g.W.Write.contents c.args.output.now) (g.W.Write.contents out) c.loop-number.counts so.judged) (sym w.output-is)
-                (record { count = count; runs = so.runs; counted = so.counted; within = within; output = so.output })),
+            subst (λ (k : Tally). IsTold c.args.sown.now c.args.seeds.now (lines so.judged) (g.W.Write.contents c.args.output.now) (g.W.Write.contents c.loop-number-test.output) k so.judged) (sym w.tally-is)
+                (subst (λ (out : g.row.W.Denot). IsTold c.args.sown.now c.args.seeds.now (lines so.judged) (g.W.Write.contents c.args.output.now) (g.W.Write.contents out) c.loop-number.tally so.judged) (sym w.output-is)
+                (record { count = count; runs = so.runs; tallied = so.tallied; within = within; output = so.output })),
           )
       | then-loop-number-test+in_ok-judged+in_ok-tell_run+else-number-number-end w ↦
           let j = judged_of w.in_ok-judged.judged in
           let judged : List Judged = so.judged ++ j ∷ [] in
           let count : length judged ≡ seeds_count c.args.seeds.now = omega (arith, so.next, length-append so.judged (j ∷ [])) in
           let within : length judged ≤ 2 ^ 64 = omega (arith, so.next, length-append so.judged (j ∷ [])) in
-          let counted : IsCountOf (length c.args.sown.now.specifications.items) w.add.new.self judged = w.add.ensures (length c.args.sown.now.specifications.items) so.judged so.counted in (
+          let tallied : IsTallyOf (length c.args.sown.now.specifications.items) w.add.new.self judged = w.add.ensures (length c.args.sown.now.specifications.items) so.judged so.tallied in (
             judged,
-            subst (λ (k : Counts). IsTold c.args.sown.now c.args.seeds.now (g.W.Write.contents c.args.output.now) (g.W.Write.contents c.loop-number-test.output) k judged) (sym w.counts-is)
-                (subst (λ (out : g.row.W.Denot). IsTold c.args.sown.now c.args.seeds.now (g.W.Write.contents c.args.output.now) (g.W.Write.contents out) w.add.new.self judged) (sym w.output-is)
-                (record { count = count; runs = runs_on c.args.sown.now c.args.seeds.now (g.W.Write.contents c.args.output.now) (g.W.Write.contents c.loop-number.output) so.judged c.loop-number.number so.next so.few so.runs so.output j w.in_ok-judged.ensures.judged; counted = counted; within = within; output = told_on c.args.sown.now c.args.seeds.now (g.W.Write.contents c.args.output.now) (g.W.Write.contents c.loop-number.output) so.judged c.loop-number.number so.next so.few so.runs so.output j w.in_ok-judged.ensures.judged (g.W.Write.contents w.tell_run.new.output) w.in_ok-tell_run.ensures.ok })),
+            subst (λ (k : Tally). IsTold c.args.sown.now c.args.seeds.now (lines judged) (g.W.Write.contents c.args.output.now) (g.W.Write.contents c.loop-number-test.output) k judged) (sym w.tally-is)
+                (subst (λ (out : g.row.W.Denot). IsTold c.args.sown.now c.args.seeds.now (lines judged) (g.W.Write.contents c.args.output.now) (g.W.Write.contents out) w.add.new.self judged) (sym w.output-is)
+                (record { count = count; runs = runs_on c.args.sown.now c.args.seeds.now (g.W.Write.contents c.args.output.now) (g.W.Write.contents c.loop-number.output) so.judged c.loop-number.number so.next so.few so.runs so.output j w.in_ok-judged.ensures.judged; tallied = tallied; within = within; output = told_on c.args.sown.now c.args.seeds.now (g.W.Write.contents c.args.output.now) (g.W.Write.contents c.loop-number.output) so.judged c.loop-number.number so.next so.few so.runs so.output j w.in_ok-judged.ensures.judged (g.W.Write.contents w.tell_run.new.output) w.in_ok-tell_run.ensures.ok })),
           )
     ]

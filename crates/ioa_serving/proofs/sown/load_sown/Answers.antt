@@ -2,6 +2,8 @@ use Rattle.std.proofs.Common.{inl, inr, subst, sym}
 use Rattle.std.specs.Option.{option_copied}
 use Rattle.std.proofs.lemmas.Result.{err_from_is_err_and}
 use Rattle.ioa_serving.specs.Headline.{IsFileOf}
+use Rattle.ioa_serving.specs.SeedRuns.{StandsFor}
+use Rattle.ioa_serving.specs.Subjects.{Subject}
 use Rattle.ioa_serving.proofs.Refused.{err_so}
 use Rattle.ioa_serving.proofs.Sowing.{unprogrammed}
 use Rattle.ioa_serving.proofs.Unrun.{unloaded}
@@ -38,4 +40,5 @@ returns-clause-sown g c =
       ready = k.0;
       gives = subst (IsFileOf c.as_slice.result.now (option_copied c.args.seeds.now.run.composition)) (sym k.1) of.1;
       specified = c.in_ok-programs.ensures.specified;
+      stands = subst (λ (x : Subject). StandsFor c.args.seeds.now.invariants x c.in_ok-programs.programs.composition) (sym k.1) of.3;
     }

@@ -23,4 +23,4 @@ returns-in_err-program-clause-refused c =
 
 pub returns-clause-runs : goal.returns-clause-runs
 returns-clause-runs c =
-    let k = c.in_ok-composed.ensures.composed in (k.0, k.2, k.1, k.3, (composed_of c.in_ok-composed.composed, k.4, c.in_ok-program.ensures))
+    let k = c.in_ok-composed.ensures.composed in (k.0, k.2, k.1, k.3, (composed_of c.in_ok-composed.composed, k.4, c.in_ok-program.ensures), c.asked_of.ensures k.2 k.4)

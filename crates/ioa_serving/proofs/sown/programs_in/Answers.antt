@@ -14,12 +14,12 @@ returns-in_err-checked-clause-refused c =
     let e = err_from_is_err_and c.from_residual.result c.from_residual.ensures.1 in
     err_so c.from_residual.result e.0 _ _ e.1 e.2 (inr (inr (c.requires, inl (c.in_err-checked.field-0.0, refl, c.in_err-checked.ensures.refused))))
 
-pub returns-in_err-program-clause-refused : goal.returns-in_err-program-clause-refused
-returns-in_err-program-clause-refused c =
-    let e = err_from_is_err_and c.from_residual-in_err-program.result c.from_residual-in_err-program.ensures.1 in
-    err_so c.from_residual-in_err-program.result e.0 _ _ e.1 e.2
-    (inl (refused_given c.args.text.now (option_copied c.args.composition) (tree_of c.in_ok-checked.checked) c.in_err-program.field-0.0 c.requires
-    c.in_ok-checked.ensures.spelled c.in_ok-checked.ensures.well_formed c.in_err-program.ensures.refused))
+pub returns-in_err-asked-clause-refused : goal.returns-in_err-asked-clause-refused
+returns-in_err-asked-clause-refused c =
+    let e = err_from_is_err_and c.from_residual-in_err-asked.result c.from_residual-in_err-asked.ensures.1 in
+    err_so c.from_residual-in_err-asked.result e.0 _ _ e.1 e.2
+    (inl (refused_given c.args.text.now (option_copied c.args.composition) (tree_of c.in_ok-checked.checked) c.in_err-asked.field-0.0 c.requires
+    c.in_ok-checked.ensures.spelled c.in_ok-checked.ensures.well_formed c.in_err-asked.ensures.refused))
 
 pub returns-in_err-specifications-clause-refused : goal.returns-in_err-specifications-clause-refused
 returns-in_err-specifications-clause-refused c =
@@ -30,11 +30,12 @@ returns-in_err-specifications-clause-refused c =
 
 pub returns-clause-gives : goal.returns-clause-gives
 returns-clause-gives c =
-    let k = c.in_ok-program.ensures.runs in
+    let k = c.in_ok-asked.ensures.runs in
     let tree = tree_of c.in_ok-checked.checked in (
       of_hosts k.1,
       (c.requires, declared c.args.text.now (option_copied c.args.composition) tree tree k.0 k.1 c.in_ok-checked.ensures.spelled refl c.in_ok-checked.ensures.well_formed k.2 k.3),
       k.4,
+      k.5,
     )
 
 pub returns-clause-specified : goal.returns-clause-specified

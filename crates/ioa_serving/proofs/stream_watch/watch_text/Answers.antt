@@ -30,7 +30,7 @@ returns-in_err-watchers-clause-refused g c =
     let error : LogErr = c.in_err-watchers.field-0.0 in
     let said = c.in_err-watchers.ensures in
     err_so c.from_residual-in_err-watchers.result e.0 _ _ e.1 e.2
-    (cut c.args.text.now (texts c.args.compositions.now) c.args.first (g.W.Write.contents c.args.output.now) (g.W.Write.contents c.watch.new.output) (tree_of given.checked)
+    (cut c.args.text.now (texts c.args.compositions.now) c.args.first c.args.json (g.W.Write.contents c.args.output.now) (g.W.Write.contents c.watch.new.output) (tree_of given.checked)
     given.programs.items c.deref.result.now c.types.result.now c.in_ok-given.ensures.specified c.deref.ensures.value c.types.ensures (g.R.Read.remaining c.args.input.now) _ error said.only
     (λ io. said.io (ap Err io)) said.refused)
 
@@ -42,7 +42,7 @@ returns-clause-watches g c =
       list_any has_refused ws,
       IfSome_then (g.R.Read.remaining c.args.input.now) c.in_ok-watchers.ensures.ok
           (λ bytes k.
-          watching c.args.text.now (texts c.args.compositions.now) c.args.first (g.W.Write.contents c.args.output.now) (g.W.Write.contents c.watch.new.output)
+          watching c.args.text.now (texts c.args.compositions.now) c.args.first c.args.json (g.W.Write.contents c.args.output.now) (g.W.Write.contents c.watch.new.output)
           (tree_of given.checked) given.programs.items c.deref.result.now c.types.result.now c.in_ok-given.ensures.specified c.deref.ensures.value c.types.ensures c.args.counts bytes ws
           _ (λ ps acts h. c.counts_or_none-reports.ensures.told ps acts (subst (HaveHeard ps acts) (sym same) h)) k),
       c.status_of_watch.ensures ∙ ap watch_status (c.some_refused.ensures ∙ ap (list_any has_refused) c.deref-3.ensures.value),

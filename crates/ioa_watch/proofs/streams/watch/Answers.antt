@@ -17,12 +17,12 @@ use Rattle.ioa_watch.proofs.streams.watch.Goals as goal
 pub returns-in_err-lines-clause-refused : goal.returns-in_err-lines-clause-refused
 returns-in_err-lines-clause-refused g c =
     let same = err_from_is_err_and c.from_residual.result c.from_residual.ensures.1 in
-    rw (same.1, same.2) (failed_before c.args.types.now c.args.programs.now c.args.first (g.W.Write.contents c.args.output.now) (g.R.Read.remaining c.args.input.now) LogErr.OutOfMemory (inr refl))
+    rw (same.1, same.2) (failed_before c.args.json c.args.types.now c.args.programs.now c.args.first (g.W.Write.contents c.args.output.now) (g.R.Read.remaining c.args.input.now) LogErr.OutOfMemory (inr refl))
 
 pub returns-in_err-stream-clause-refused : goal.returns-in_err-stream-clause-refused
 returns-in_err-stream-clause-refused g c =
     let same = err_from_is_err_and c.from_residual-in_err-stream.result c.from_residual-in_err-stream.ensures.1 in
-    rw (same.1, same.2) (failed_before c.args.types.now c.args.programs.now c.args.first (g.W.Write.contents c.args.output.now) (g.R.Read.remaining c.args.input.now) LogErr.OutOfMemory (inr refl))
+    rw (same.1, same.2) (failed_before c.args.json c.args.types.now c.args.programs.now c.args.first (g.W.Write.contents c.args.output.now) (g.R.Read.remaining c.args.input.now) LogErr.OutOfMemory (inr refl))
 
 pub loop-turn-init : goal.loop-turn-init
 loop-turn-init g c = record {
@@ -45,16 +45,16 @@ pub returns-then-is_over-clause-ok : goal.returns-then-is_over-clause-ok
 returns-then-is_over-clause-ok g c =
     let ps : List Prog = c.args.programs.now in
     let k = c.loop-turn.invariant.come in
-    watched_over c.args.types.now ps c.args.first (g.W.Write.contents c.args.output.now) k.0 k.1 k.2.came (g.R.Read.remaining c.args.input.now) _ k.4
+    watched_over c.args.json c.args.types.now ps c.args.first (g.W.Write.contents c.args.output.now) k.0 k.1 k.2.came (g.R.Read.remaining c.args.input.now) _ k.4
     (g.W.Write.contents c.loop-turn.output) (λ xs. HaveHeard ps xs c.loop-turn.stream.watchers.items)
-    (over_of c.args.types.now ps c.args.first k.0 k.1 c.loop-turn.stream c.is_over.result k.2 c.is_over.ensures ∙ c.if-is_over.true) k.5 k.2.heard
+    (over_of c.args.json c.args.types.now ps c.args.first k.0 k.1 c.loop-turn.stream c.is_over.result k.2 c.is_over.ensures ∙ c.if-is_over.true) k.5 k.2.heard
 
 pub returns-in_err-has_more-clause-refused : goal.returns-in_err-has_more-clause-refused
 returns-in_err-has_more-clause-refused g c =
     let k = c.loop-turn.invariant.come in
     let error : LogErr = c.in_err-has_more.field-0.0 in
     let same = err_from_is_err_and c.from_residual-in_err-has_more.result c.from_residual-in_err-has_more.ensures.1 in
-    rw (same.1, same.2) (failed_behind c.args.types.now c.args.programs.now c.args.first (g.W.Write.contents c.args.output.now) k.0 k.1 k.2.came (g.R.Read.remaining c.args.input.now) _ k.4
+    rw (same.1, same.2) (failed_behind c.args.json c.args.types.now c.args.programs.now c.args.first (g.W.Write.contents c.args.output.now) k.0 k.1 k.2.came (g.R.Read.remaining c.args.input.now) _ k.4
     (g.W.Write.contents c.loop-turn.output) error (inl c.in_err-has_more.ensures.only) k.5)
 
 pub blamed-requires : goal.blamed-requires
@@ -67,9 +67,9 @@ returns-in_err-write_accepted-clause-refused g c =
     let k = c.loop-turn.invariant.come in
     let error : LogErr = c.in_err-write_accepted.field-0.0 in
     let same = err_from_is_err_and c.from_residual-in_err-write_accepted.result c.from_residual-in_err-write_accepted.ensures.1 in
-    rw (same.1, same.2) (failed_last types ps c.args.first (g.W.Write.contents c.args.output.now) k.0 k.1 k.2.came (g.R.Read.remaining c.args.input.now) _ k.4
+    rw (same.1, same.2) (failed_last c.args.json types ps c.args.first (g.W.Write.contents c.args.output.now) k.0 k.1 k.2.came (g.R.Read.remaining c.args.input.now) _ k.4
     (g.W.Write.contents c.loop-turn.output) _ (g.W.Write.contents c.write_accepted.new.output) error c.in_err-write_accepted.ensures.only
-    (over_of types ps c.args.first k.0 k.1 c.loop-turn.stream c.is_over.result k.2 c.is_over.ensures ∙ c.if-is_over.false)
+    (over_of c.args.json types ps c.args.first k.0 k.1 c.loop-turn.stream c.is_over.result k.2 c.is_over.ensures ∙ c.if-is_over.false)
     (c.in_ok-has_more.ensures.none (ap Ok c.if-not-branch.true)) k.5
     (c.in_err-write_accepted.ensures.begun ps k.1 (subst (HaveHeard ps k.1) (sym c.deref.ensures.value) k.2.heard)))
 
@@ -78,9 +78,9 @@ returns-then-not-branch-clause-ok g c =
     let types : Table = c.args.types.now in
     let ps : List Prog = c.args.programs.now in
     let k = c.loop-turn.invariant.come in
-    watched_whole types ps c.args.first (g.W.Write.contents c.args.output.now) k.0 k.1 k.2.came (g.R.Read.remaining c.args.input.now) _ k.4
+    watched_whole c.args.json types ps c.args.first (g.W.Write.contents c.args.output.now) k.0 k.1 k.2.came (g.R.Read.remaining c.args.input.now) _ k.4
     (g.W.Write.contents c.loop-turn.output) (g.W.Write.contents c.write_accepted.new.output) _ (λ xs. HaveHeard ps xs c.loop-turn.stream.watchers.items)
-    (over_of types ps c.args.first k.0 k.1 c.loop-turn.stream c.is_over.result k.2 c.is_over.ensures ∙ c.if-is_over.false)
+    (over_of c.args.json types ps c.args.first k.0 k.1 c.loop-turn.stream c.is_over.result k.2 c.is_over.ensures ∙ c.if-is_over.false)
     (c.in_ok-has_more.ensures.none (ap Ok c.if-not-branch.true)) k.5
     (c.in_ok-write_accepted.ensures.ok ps k.1 (subst (HaveHeard ps k.1) (sym c.deref.ensures.value) k.2.heard)) k.2.heard
 
@@ -89,7 +89,7 @@ returns-in_err-next-clause-refused g c =
     let k = c.loop-turn.invariant.come in
     let error : LogErr = c.in_err-next.field-0.0 in
     let same = err_from_is_err_and c.from_residual-in_err-next.result c.from_residual-in_err-next.ensures.1 in
-    rw (same.1, same.2) (failed_behind c.args.types.now c.args.programs.now c.args.first (g.W.Write.contents c.args.output.now) k.0 k.1 k.2.came (g.R.Read.remaining c.args.input.now) _ k.4
+    rw (same.1, same.2) (failed_behind c.args.json c.args.types.now c.args.programs.now c.args.first (g.W.Write.contents c.args.output.now) k.0 k.1 k.2.came (g.R.Read.remaining c.args.input.now) _ k.4
     (g.W.Write.contents c.loop-turn.output) error c.in_err-next.ensures.only k.5)
 
 pub returns-in_err-next-clause-passed : goal.returns-in_err-next-clause-passed
@@ -103,7 +103,7 @@ returns-in_err-next-clause-passed g c = λ other.
 pub take_line-requires : goal.take_line-requires
 take_line-requires g c =
     let k = c.loop-turn.invariant.come in
-    (c.args.types.now, c.args.programs.now, c.args.first, k.0, k.1, k.2, omega (arith, k.3, c.loop-turn-test.true))
+    (c.args.json, c.args.types.now, c.args.programs.now, c.args.first, k.0, k.1, k.2, omega (arith, k.3, c.loop-turn-test.true))
 
 pub returns-in_err-news-clause-refused : goal.returns-in_err-news-clause-refused
 returns-in_err-news-clause-refused g c =
@@ -114,12 +114,12 @@ returns-in_err-news-clause-refused g c =
     let same = err_from_is_err_and c.from_residual-in_err-news.result c.from_residual-in_err-news.ensures.1 in
     let line : List ℕ = c.next.new.self.line.items in
     let n : c.loop-turn.turn + 1 ≡ length k.0 + 1 = ap (λ (m : ℕ). m + 1) (sym k.3) in
-    rw (same.1, same.2) (failed_line types ps c.args.first (g.W.Write.contents c.args.output.now) k.0 k.1 k.2.came (g.R.Read.remaining c.args.input.now) _ k.4
+    rw (same.1, same.2) (failed_line c.args.json types ps c.args.first (g.W.Write.contents c.args.output.now) k.0 k.1 k.2.came (g.R.Read.remaining c.args.input.now) _ k.4
     _ _ (g.W.Write.contents c.loop-turn.output) line (c.loop-turn.turn + 1) error
-    (over_of types ps c.args.first k.0 k.1 c.loop-turn.stream c.is_over.result k.2 c.is_over.ensures ∙ c.if-is_over.false) n c.in_err-news.ensures.only
+    (over_of c.args.json types ps c.args.first k.0 k.1 c.loop-turn.stream c.is_over.result k.2 c.is_over.ensures ∙ c.if-is_over.false) n c.in_err-news.ensures.only
     (c.in_ok-has_more.ensures.some (ap Ok c.if-not-branch.false)) c.in_ok-next.ensures.line k.5
     (λ m e. let w = c.in_err-news.ensures.not_json m (let x : error ≡ LogErr.NotJson m = cc in ap Err x) in (w.0, subst IsNotJson c.deref-in-loop-turn.ensures.value w.1))
-    (λ m e. let w = c.in_err-news.ensures.bad m (let x : error ≡ LogErr.BadEntry m = cc in ap Err x) types ps c.args.first k.0 k.1 k.2 in (w.0, subst (IsNoLine types (known_by ps)) c.deref-in-loop-turn.ensures.value w.1)))
+    (λ m e. let w = c.in_err-news.ensures.bad m (let x : error ≡ LogErr.BadEntry m = cc in ap Err x) c.args.json types ps c.args.first k.0 k.1 k.2 in (w.0, subst (IsNoLine types (known_by ps)) c.deref-in-loop-turn.ensures.value w.1)))
 
 pub returns-in_err-send_all-clause-refused : goal.returns-in_err-send_all-clause-refused
 returns-in_err-send_all-clause-refused g c =
@@ -130,11 +130,11 @@ returns-in_err-send_all-clause-refused g c =
     let same = err_from_is_err_and c.from_residual-in_err-send_all.result c.from_residual-in_err-send_all.ensures.1 in
     let io : c.in_err-send_all.field-0.0 ≡ LogErr.Io = c.in_err-send_all.ensures.io.0 in
     let begun = c.in_err-send_all.ensures.begun in
-    let t = c.in_ok-news.ensures.ok types ps c.args.first k.0 k.1 k.2 (over_of types ps c.args.first k.0 k.1 c.loop-turn.stream c.is_over.result k.2 c.is_over.ensures ∙ c.if-is_over.false) in
-    let come = subst (λ (l : List ℕ). HasCome types ps c.args.first (k.0 ++ l ∷ []) (k.1 ++ t.more) c.take_line.new.self) c.deref-in-loop-turn.ensures.value t.come in
+    let t = c.in_ok-news.ensures.ok c.args.json types ps c.args.first k.0 k.1 k.2 (over_of c.args.json types ps c.args.first k.0 k.1 c.loop-turn.stream c.is_over.result k.2 c.is_over.ensures ∙ c.if-is_over.false) in
+    let come = subst (λ (l : List ℕ). HasCome c.args.json types ps c.args.first (k.0 ++ l ∷ []) (k.1 ++ t.more) c.take_line.new.self) c.deref-in-loop-turn.ensures.value t.come in
     let taken = line_taken (g.R.Read.remaining c.args.input.now) _ _ _ k.0 line k.4 (c.in_ok-has_more.ensures.some (ap Ok c.if-not-branch.false)) c.in_ok-next.ensures.line in
-    rw (same.1, same.2, io) (failed_within types ps c.args.first (g.W.Write.contents c.args.output.now) (k.0 ++ line ∷ []) (k.1 ++ t.more) come.came (g.R.Read.remaining c.args.input.now) _ taken
-    (g.W.Write.contents c.loop-turn.output) (g.W.Write.contents c.send_all.new.output) (told ps k.1) (string_bytes c.in_ok-news.news) LogErr.Io (inl refl) t.news_are k.5
+    rw (same.1, same.2, io) (failed_within c.args.json types ps c.args.first (g.W.Write.contents c.args.output.now) (k.0 ++ line ∷ []) (k.1 ++ t.more) come.came (g.R.Read.remaining c.args.input.now) _ taken
+    (g.W.Write.contents c.loop-turn.output) (g.W.Write.contents c.send_all.new.output) (told c.args.json ps k.1) (string_bytes c.in_ok-news.news) LogErr.Io (inl refl) t.news_are k.5
     (begun.0, subst (λ xs. Appends (g.W.Write.contents c.loop-turn.output) (g.W.Write.contents c.send_all.new.output) (take begun.0 xs)) c.as_bytes.ensures.value begun.1))
 
 pub loop-turn-preserved : goal.loop-turn-preserved
@@ -143,8 +143,8 @@ loop-turn-preserved g c =
     let ps : List Prog = c.args.programs.now in
     let k = c.loop-turn.invariant.come in
     let line : List ℕ = c.next.new.self.line.items in
-    let t = c.in_ok-news.ensures.ok types ps c.args.first k.0 k.1 k.2 (over_of types ps c.args.first k.0 k.1 c.loop-turn.stream c.is_over.result k.2 c.is_over.ensures ∙ c.if-is_over.false) in
-    let come = subst (λ (l : List ℕ). HasCome types ps c.args.first (k.0 ++ l ∷ []) (k.1 ++ t.more) c.take_line.new.self) c.deref-in-loop-turn.ensures.value t.come in
+    let t = c.in_ok-news.ensures.ok c.args.json types ps c.args.first k.0 k.1 k.2 (over_of c.args.json types ps c.args.first k.0 k.1 c.loop-turn.stream c.is_over.result k.2 c.is_over.ensures ∙ c.if-is_over.false) in
+    let come = subst (λ (l : List ℕ). HasCome c.args.json types ps c.args.first (k.0 ++ l ∷ []) (k.1 ++ t.more) c.take_line.new.self) c.deref-in-loop-turn.ensures.value t.come in
     let old = g.W.Write.contents c.args.output.now in
     let mid = g.W.Write.contents c.loop-turn.output in
     let new = g.W.Write.contents c.send_all.new.output in
@@ -164,12 +164,12 @@ loop-turn-preserved g c =
         come,
         length-append k.0 (line ∷ []) ∙ ap (λ (m : ℕ). m + 1) k.3,
         line_taken (g.R.Read.remaining c.args.input.now) _ _ _ k.0 line k.4 (c.in_ok-has_more.ensures.some (ap Ok c.if-not-branch.false)) c.in_ok-next.ensures.line,
-        subst (Appends old new) (sym t.news_are) (Appends-trans old mid new (told ps k.1) (string_bytes c.in_ok-news.news) k.5 written),
+        subst (Appends old new) (sym t.news_are) (Appends-trans old mid new (told c.args.json ps k.1) (string_bytes c.in_ok-news.news) k.5 written),
       );
     }
 
 pub returns-clause-refused : goal.returns-clause-refused
 returns-clause-refused g c =
     let k = c.loop-turn.invariant.come in
-    failed_behind c.args.types.now c.args.programs.now c.args.first (g.W.Write.contents c.args.output.now) k.0 k.1 k.2.came (g.R.Read.remaining c.args.input.now) _ k.4
+    failed_behind c.args.json c.args.types.now c.args.programs.now c.args.first (g.W.Write.contents c.args.output.now) k.0 k.1 k.2.came (g.R.Read.remaining c.args.input.now) _ k.4
     (g.W.Write.contents c.loop-turn.output) c.blamed.result (inl c.blamed.ensures.same) k.5

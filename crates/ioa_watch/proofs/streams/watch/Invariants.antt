@@ -13,7 +13,7 @@ invariant-loop-turn g l = record {
   read : g.R.Device.failure_count l.input ≡ g.R.Device.failure_count l.fn.input;
   wrote : g.W.Device.failure_count l.output ≡ g.W.Device.failure_count l.fn.output;
   counted : min (l.turn + length (rest l.lines)) (2 ^ 64 - 1) ≤ g.R.InputDevice.given_count l.input;
-  come : (ls : List (List ℕ)) × (acts : List Act) × HasCome l.fn.types l.fn.programs l.fn.first ls acts l.stream × (length ls ≡ l.turn)
+  come : (ls : List (List ℕ)) × (acts : List Act) × HasCome l.fn.json l.fn.types l.fn.programs l.fn.first ls acts l.stream × (length ls ≡ l.turn)
       × IfSome (g.R.Read.remaining l.fn.input) (λ bytes. AreTaken bytes ls (to_come (g.R.Read.remaining l.input) l.lines))
-      × Appends (g.W.Write.contents l.fn.output) (g.W.Write.contents l.output) (told l.fn.programs acts);
+      × Appends (g.W.Write.contents l.fn.output) (g.W.Write.contents l.output) (told l.fn.json l.fn.programs acts);
 }

@@ -20,9 +20,9 @@ loop-watcher-preserved c = λ ps acts h.
     let t = heard_at i ps acts ws w h (slice_get_read ws (length ws) i w refl inside c.watcher-item.is) in
     let named : c.name.result.now ≡ t.program.name = c.name.ensures ∙ ap (λ (q : Prog). q.name) (c.program.ensures ∙ t.heard.program) in
     let refused : option_map ending_of c.refusal.result ≡ refused_by t.program acts = ap (option_map ending_of) c.refusal.ensures ∙ refusal_is t.program acts w t.heard in
-    flat_up_to (λ p. accepted_line p.name (refused_by p acts)) ps i t.program (string_bytes c.loop-watcher.text) (accepted_line c.name.result.now (option_map ending_of c.refusal.result)) (string_bytes c.push_accepted.new.text)
+    flat_up_to (λ p. accepted_line c.args.json p.name (refused_by p acts)) ps i t.program (string_bytes c.loop-watcher.text) (accepted_line c.args.json c.name.result.now (option_map ending_of c.refusal.result)) (string_bytes c.push_accepted.new.text)
     t.place (c.loop-watcher.invariant ps acts h)
-    (ap (λ x. accepted_line x (option_map ending_of c.refusal.result)) named ∙ ap (accepted_line t.program.name) refused) c.in_ok-push_accepted.ensures
+    (ap (λ x. accepted_line c.args.json x (option_map ending_of c.refusal.result)) named ∙ ap (accepted_line c.args.json t.program.name) refused) c.in_ok-push_accepted.ensures
 
 pub returns : goal.returns
 returns c = λ ps acts h.
@@ -30,4 +30,4 @@ returns c = λ ps acts h.
     let i = c.loop-watcher.watcher-index in
     let least : length ws ≤ i = search rules in
     let count : length ps ≡ length ws = same_count (λ p w. HasHeard p acts w) ps ws h in
-    flat_all (λ p. accepted_line p.name (refused_by p acts)) ps i (string_bytes c.loop-watcher.text) (omega (arith, count, least)) (c.loop-watcher.invariant ps acts h)
+    flat_all (λ p. accepted_line c.args.json p.name (refused_by p acts)) ps i (string_bytes c.loop-watcher.text) (omega (arith, count, least)) (c.loop-watcher.invariant ps acts h)

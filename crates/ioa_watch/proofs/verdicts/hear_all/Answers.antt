@@ -34,7 +34,7 @@ loop-i-preserved c = λ ps acts h.
     let one = c.in_ok-hear_one.ensures t.program acts (subst (HasHeard t.program acts) c.index-watchers-i.is t.heard) in
     let next : suc i ≡ i + 1 = omega arith in (
       subst (λ (n : ℕ). HeardUpTo n ps acts a (slice_set ws i v)) next (heard_more i ps acts a ws t.program v k.0 t.place one.0),
-      flat_up_to (told_at acts a) ps i t.program (string_bytes c.loop-i.text) (told_at acts a t.program) (string_bytes c.hear_one.new.text) t.place k.1 refl one.1,
+      flat_up_to (told_at c.args.json acts a) ps i t.program (string_bytes c.loop-i.text) (told_at c.args.json acts a t.program) (string_bytes c.hear_one.new.text) t.place k.1 refl one.1,
     )
 
 pub returns : goal.returns
@@ -46,4 +46,4 @@ returns c = λ ps acts h.
     let least : length ws ≤ i = search rules in
     let most : i ≤ length ws = search rules in
     let count : length ps ≡ length ws = heard_count i ps acts a ws k.0 in
-    (all_heard i ps acts a ws (omega (arith, least, most)) k.0, flat_all (told_at acts a) ps i (string_bytes c.loop-i.text) (omega (arith, count, least)) k.1)
+    (all_heard i ps acts a ws (omega (arith, least, most)) k.0, flat_all (told_at c.args.json acts a) ps i (string_bytes c.loop-i.text) (omega (arith, count, least)) k.1)

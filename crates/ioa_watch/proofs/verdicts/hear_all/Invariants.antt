@@ -8,4 +8,4 @@ use Rattle.ioa_watch.proofs.verdicts.hear_all.Given as goal
 
 abbrev pub invariant-loop-i : goal.invariant-loop-i
 invariant-loop-i l = (ps : List Prog) (acts : List Act) → HaveHeard ps acts l.fn.watchers
-    → HeardUpTo l.i ps acts (act_of l.action) l.watchers × (string_bytes l.text ≡ flat_map (told_at acts (act_of l.action)) (take l.i ps))
+    → HeardUpTo l.i ps acts (act_of l.action) l.watchers × (string_bytes l.text ≡ flat_map (told_at l.json acts (act_of l.action)) (take l.i ps))

@@ -22,6 +22,6 @@ returns c =
     let next = heard_next p acts w h a v c.in_ok-refusal.ensures.program c.in_ok-refusal.ensures.names c.in_ok-refusal.ensures.next in
     let named : c.name.result.now ≡ p.name = c.name.ensures ∙ ap (λ (q : Prog). q.name) (c.program.ensures ∙ next.program) in (
       next,
-      put ∙ ap (λ x. old ++ refusal_line x (option_map ending_of c.in_ok-refusal.refusal)) named
-          ∙ ap (λ o. old ++ refusal_line p.name o) (c.in_ok-refusal.ensures.told ∙ told_is p acts w v a h next),
+      put ∙ ap (λ x. old ++ refusal_line c.args.json x (option_map ending_of c.in_ok-refusal.refusal)) named
+          ∙ ap (λ o. old ++ refusal_line c.args.json p.name o) (c.in_ok-refusal.ensures.told ∙ told_is p acts w v a h next),
     )) c.push_refusal.ensures

@@ -1,10 +1,12 @@
 use Rattle.std.proofs.Common.{ap, inl, inr, subst, ◌∙◌}
-use Rattle.clap.specs.Words.{subcommand_rows_of}
+use Rattle.clap.specs.Words.{subcommand_of, subcommand_rows_of}
 use Rattle.ioa_request.specs.declared.request.Request.{Request}
-use Rattle.ioa_request.specs.CommandLine.{IsAskedBy, is_explained}
+use Rattle.ioa_request.specs.CommandLine.{IsAskedBy, ioac_app, is_explained}
+use Rattle.ioa_request.specs.Cuts.{cut_of}
 use Rattle.ioa_serving.specs.Devices.{change, files, world}
 use Rattle.ioa_serving.proofs.Kept.{keeps_same}
-use Rattle.ioac.specs.Commands.{IsAnsweredAs}
+use Rattle.ioac.specs.Commands.{IsAnsweredOf}
+use Rattle.ioac.proofs.Taken.{uncut}
 use Rattle.ioac.proofs.Unasked.{is_unasked}
 use Rattle.ioac.proofs.command.perform_read.Goals as goal
 
@@ -12,15 +14,27 @@ pub returns-in-Some-clause-performs : goal.returns-in-Some-clause-performs
 returns-in-Some-clause-performs g c = λ words found faults.
     (let asked : Request = c.in-Some.asked in
     let w =
-    world (files g.F.Store.holds g.F.Store.lacks g.F.Store.begins g.F.Store.bars g.F.Store.saves c.args.store.now c.answer_as.new.store)
-    (change g.R.Read.remaining g.R.Device.failure_count c.args.input.now.inner c.answer_as.new.input.inner)
-    (change g.W.Write.contents g.W.Device.failure_count c.args.output.now c.answer_as.new.output)
-    (change g.E.Write.contents g.E.Device.failure_count c.args.errors.now c.answer_as.new.errors) in
+    world (files g.F.Store.holds g.F.Store.lacks g.F.Store.begins g.F.Store.bars g.F.Store.saves c.args.store.now c.answer_of.new.store)
+    (change g.R.Read.remaining g.R.Device.failure_count c.args.input.now.inner c.answer_of.new.input.inner)
+    (change g.W.Write.contents g.W.Device.failure_count c.args.output.now c.answer_of.new.output)
+    (change g.E.Write.contents g.E.Device.failure_count c.args.errors.now c.answer_of.new.errors) in
     inr (
       asked,
       (faults, subst (λ o. IsAskedBy o asked) found c.in-Some.ensures.some),
-      subst (λ b. IsAnsweredAs b w asked c.answer_as.result) (c.is_explained-explains.ensures ∙ ap is_explained found) c.answer_as.ensures.answers,
+      subst (λ k. IsAnsweredOf k (is_explained (subcommand_of ioac_app words)) w asked c.answer_of.result) (c.read_cut-cut.ensures ∙ ap cut_of found)
+          (subst (λ b. IsAnsweredOf c.read_cut-cut.result b w asked c.answer_of.result) (c.is_explained-explains.ensures ∙ ap is_explained found) c.answer_of.ensures.answers),
     ))
+
+pub returns-in-Some-clause-kept : goal.returns-in-Some-clause-kept
+returns-in-Some-clause-kept g c = λ none.
+    let asked : Request = c.in-Some.asked in
+    c.answer_of.ensures.kept (none asked c.in-Some.ensures.some)
+
+pub returns-in-Some-clause-unread : goal.returns-in-Some-clause-unread
+returns-in-Some-clause-unread g c = λ none.
+    let asked : Request = c.in-Some.asked in
+    let quiet = none asked c.in-Some.ensures.some in
+    c.answer_of.ensures.unread (uncut (subcommand_rows_of c.args.matches.now) c.read_cut-cut.result asked c.read_cut-cut.ensures c.in-Some.ensures.some quiet) quiet
 
 pub returns-in-None-clause-performs : goal.returns-in-None-clause-performs
 returns-in-None-clause-performs g c = λ words found faults.

@@ -29,3 +29,4 @@ returns c = λ k js so.
     (ap (λ n. old.done + n) (c.one_if.ensures ∙ ap (λ b. cond (not b) 1 0) c.is_faulted-faulted.ensures))
     (ap (λ n. old.fault + n) (c.one_if-2.ensures ∙ ap (λ b. cond b 1 0) c.is_faulted-faulted.ensures))
     (refilled old.refusals.len counts ns long ∙ same)
+    (ap (λ n. old.broken + n) (c.one_if-3.ensures ∙ ap (λ b. cond b 1 0) c.is_broken.ensures))
