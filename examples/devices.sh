@@ -81,6 +81,7 @@ unprinted /dev/null dump counter
 unprinted counts.list replay counter.ioa
 unprinted counts.list replay counter
 unprinted counts.list replay counter.ioa --states
+unprinted counts.list replay counter.ioa --enabled
 unprinted too_soon.list replay counter.ioa --explain
 unprinted long.log replay counter.ioa --log
 unprinted delivered.list replay ordered.ioa --comp Link --log

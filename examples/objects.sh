@@ -78,6 +78,8 @@ refused 2 object compile object object
 refused 2 object replay object --log --invariants
 refused 2 object replay object --states
 refused 2 object replay object --log --states
+refused 2 object replay object --enabled
+refused 2 object replay object --log --enabled
 refused 1 E17 replay object --comp Two
 refused 1 E17 compile "$top/counter/counter.ioa" object --comp Nine
 refused 5 io compile "$top/counter/none.ioa" object

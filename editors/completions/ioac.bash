@@ -20,7 +20,7 @@ _ioac() {
     check) options='--compositions --explain --help' ;;
     compile) options='--comp --explain --help' ;;
     dump) options='--explain --help' ;;
-    replay) options='--comp --log --invariants --states --until --explain --help' ;;
+    replay) options='--comp --log --invariants --states --enabled --until --explain --help' ;;
     log) options='--comp --log --until --explain --help' ;;
     run) options='--comp --alone --turns --seed --words --seeds --monitor --invariants --keep --inputs --resume --log --reports --explain --help' ;;
     monitor) options='--comp --strict --json --explain --help' ;;

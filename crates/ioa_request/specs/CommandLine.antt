@@ -12,9 +12,11 @@ use Rattle.ioa_request.specs.declared.request.Request.{Request}
 use Rattle.ioa_request.specs.declared.seeds.Seeds.{Seeds}
 use Rattle.ioa_request.specs.declared.selection.Selection.{Selection}
 use Rattle.ioa_request.specs.declared.settings.Settings.{Settings}
+use Rattle.ioa_request.specs.declared.shown.Shown.{Shown}
 use Rattle.ioa_request.specs.Pasted.{IsPasted, texts}
 use Rattle.ioa_request.specs.Seeds.{range_in}
 use Rattle.ioa_request.specs.Selections.{are_in_order, bound_in, names_in}
+use Rattle.ioa_request.specs.Showing.{shown_in}
 use Rattle.ioa_request.specs.Settings.{source_in, source_of, turns_in}
 
 -- words that have to stand
@@ -63,6 +65,10 @@ compositions_rule = record (new_rule (codes "compositions")) { long = Some (code
 -- `--states`
 abbrev pub states_rule : Rule
 states_rule = record (new_rule (codes "states")) { long = Some (codes "states"); action = Some ArgAction.SetTrue }
+
+-- `--enabled`
+abbrev pub enabled_rule : Rule
+enabled_rule = record (new_rule (codes "enabled")) { long = Some (codes "enabled"); action = Some ArgAction.SetTrue }
 
 -- `--until N`
 abbrev pub until_rule : Rule
@@ -141,7 +147,8 @@ library_app = with_rule (new_app (codes "library")) explain_rule
 
 abbrev pub replay_app : App
 replay_app =
-    with_rule (with_rule (with_rule (with_rule (with_rule (with_rule (with_rule (new_app (codes "replay")) file_rule) comp_rule) log_rule) invariants_rule) states_rule) until_rule) explain_rule
+    with_rule (with_rule (with_rule (with_rule (with_rule (with_rule (with_rule (with_rule (new_app (codes "replay")) file_rule) comp_rule) log_rule) invariants_rule) states_rule) enabled_rule)
+    until_rule) explain_rule
 
 abbrev pub log_app : App
 log_app = with_rule (with_rule (with_rule (with_rule (with_rule (new_app (codes "log")) file_rule) comp_rule) log_rule) until_rule) explain_rule
@@ -202,10 +209,14 @@ is_explained (Some found) = is_set (codes "explain") found.1
 abbrev pub is_bounded : List Row → Bool
 is_bounded rows = is_some (bound_in (first_of (codes "until") rows))
 
--- it is a replay, of a log or not, asked for invariants or not, and for states or not
-abbrev pub IsReplayWith : Bool → Bool → Bool → Text × List Row → Type 0
-IsReplayWith log invariants states found =
-    (found.0 ≡ codes "replay") × (is_set (codes "log") found.1 ≡ log) × (is_set (codes "invariants") found.1 ≡ invariants) × (is_set (codes "states") found.1 ≡ states)
+-- what a subcommand's values ask to be told of states
+abbrev pub shown_by : List Row → Option Shown
+shown_by rows = shown_in (is_set (codes "states") rows) (is_set (codes "enabled") rows)
+
+-- it is a replay, of a log or not, asked for invariants or not, and to tell this of states, or nothing
+abbrev pub IsReplayWith : Bool → Bool → Option Shown → Text × List Row → Type 0
+IsReplayWith log invariants shown found =
+    (found.0 ≡ codes "replay") × (is_set (codes "log") found.1 ≡ log) × (is_set (codes "invariants") found.1 ≡ invariants) × (shown_by found.1 ≡ shown)
     × (is_bounded found.1 ≡ true)
 
 -- it writes a log, of a log or of a list
@@ -263,19 +274,19 @@ pub record AreSelected (rows : List Row) (s : Selection) : Type 0 where
   pub without : texts s.without.now ≡ names_in (all_of (codes "without") rows)
 
 -- a subcommand with its values, if there is one, asks for this; a replay of a list cannot be asked for invariants, and no replay for
--- invariants and states
+-- invariants and to tell of states
 abbrev pub IsAskedBy : Option (Text × List Row) → Request → Type 0
 IsAskedBy None request = ⊥
 IsAskedBy (Some found) (Request.Replay file composition) =
-    IsReplayWith false false false found × Names found.1 file.now (option_copied composition)
-IsAskedBy (Some found) (Request.ReplayStates file composition) =
-    IsReplayWith false false true found × Names found.1 file.now (option_copied composition)
+    IsReplayWith false false None found × Names found.1 file.now (option_copied composition)
+IsAskedBy (Some found) (Request.ReplayStates file composition shown) =
+    IsReplayWith false false (Some shown) found × Names found.1 file.now (option_copied composition)
 IsAskedBy (Some found) (Request.ReplayLog file composition) =
-    IsReplayWith true false false found × Names found.1 file.now (option_copied composition)
-IsAskedBy (Some found) (Request.ReplayLogStates file composition) =
-    IsReplayWith true false true found × Names found.1 file.now (option_copied composition)
+    IsReplayWith true false None found × Names found.1 file.now (option_copied composition)
+IsAskedBy (Some found) (Request.ReplayLogStates file composition shown) =
+    IsReplayWith true false (Some shown) found × Names found.1 file.now (option_copied composition)
 IsAskedBy (Some found) (Request.ReplayInvariants file composition) =
-    IsReplayWith true true false found × Names found.1 file.now (option_copied composition)
+    IsReplayWith true true None found × Names found.1 file.now (option_copied composition)
 IsAskedBy (Some found) (Request.Log file composition) = IsLogWith false found × Names found.1 file.now (option_copied composition)
 IsAskedBy (Some found) (Request.LogByLog file composition) = IsLogWith true found × Names found.1 file.now (option_copied composition)
 IsAskedBy (Some found) (Request.Monitor file composition) =

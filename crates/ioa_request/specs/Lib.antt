@@ -9,3 +9,4 @@ pub mod Pasted
 pub mod Seeds
 pub mod Selections
 pub mod Settings
+pub mod Showing

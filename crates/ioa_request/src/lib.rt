@@ -15,6 +15,7 @@ mod run_usage;
 mod seeds;
 mod selection;
 mod settings;
+mod shown;
 mod watch_usage;
 
 // Words, and what they spell.
@@ -39,4 +40,5 @@ pub use request::{Request, parse};
 pub use seeds::{Seeds, asks_seeds, is_given, read_range};
 pub use selection::{Selection, read_bound};
 pub use settings::{Settings, WordsFrom, read_turns};
+pub use shown::Shown;
 pub use topic::Topic;

@@ -13,11 +13,12 @@ use crate::request::Request;
 use crate::seeds::{asks_seeds, read_seeds};
 use crate::selection::read_selection;
 use crate::settings::read_settings;
+use crate::shown::read_shown;
 use clap::ArgMatches;
 
 /// The request of a command line without a fault. None where a word is missing, which a parse rules out, where there is nothing to explain,
-/// where the invariants of a list are asked for, or invariants and states, or where the settings of a run, or of runs by many seeds, or the bounds
-/// of a chart, of a list or of a log, are none.
+/// where the invariants of a list are asked for, or invariants and to tell of states, or where the settings of a run, or of runs by many seeds, or
+/// the bounds of a chart, of a list or of a log, are none.
 pub fn read_request<'m>(matches: &'m ArgMatches<'_>) -> Option<Request<'m>>
     ensures some { IfSome result (λ asked. IsAskedBy (subcommand_rows_of matches.now) asked) }
     ensures none { IfNone result ((asked : Request) → IsAskedBy (subcommand_rows_of matches.now) asked → ⊥) }
@@ -88,14 +89,22 @@ fn read_replay<'m>(found: &'m ArgMatches<'_>) -> Option<Request<'m>>
     match (
         is_set(found, "log"),
         is_set(found, "invariants"),
-        is_set(found, "states"),
+        read_shown(found),
     ) {
-        (false, false, false) => Some(Request::Replay { file, composition }),
-        (false, false, true) => Some(Request::ReplayStates { file, composition }),
-        (true, false, false) => Some(Request::ReplayLog { file, composition }),
-        (true, false, true) => Some(Request::ReplayLogStates { file, composition }),
-        (true, true, false) => Some(Request::ReplayInvariants { file, composition }),
-        (true, true, true) => None,
+        (false, false, None) => Some(Request::Replay { file, composition }),
+        (false, false, Some(shown)) => Some(Request::ReplayStates {
+            file,
+            composition,
+            shown,
+        }),
+        (true, false, None) => Some(Request::ReplayLog { file, composition }),
+        (true, false, Some(shown)) => Some(Request::ReplayLogStates {
+            file,
+            composition,
+            shown,
+        }),
+        (true, true, None) => Some(Request::ReplayInvariants { file, composition }),
+        (true, true, Some(_)) => None,
         (false, true, _) => None,
     }
 }

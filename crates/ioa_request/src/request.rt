@@ -2,7 +2,7 @@
 
 ghost use Rattle.std.specs.Prelude.{◌≡◌, false, map, codes, IfOk};
 ghost use Rattle.clap.specs.Words.{App, FailsBy, Rule, app_of, fault_of, new_app, rule_of, subcommand_of, subcommand_rows_of, with_rule, with_subcommand};
-ghost use Rattle.ioa_request.specs.CommandLine.{IsLocal, check_app, comp_rule, compile_app, compositions_rule, dump_app, explain_app, explain_rule, file_rule, graph_app, invariants_rule, ioac_app, library_app, log_app, log_rule, out_rule, replay_app, states_rule, text_rule};
+ghost use Rattle.ioa_request.specs.CommandLine.{IsLocal, check_app, comp_rule, compile_app, compositions_rule, dump_app, enabled_rule, explain_app, explain_rule, file_rule, graph_app, invariants_rule, ioac_app, library_app, log_app, log_rule, out_rule, replay_app, states_rule, text_rule};
 
 use crate::chart_usage::chart_command;
 use crate::cut_usage::until_option;
@@ -11,6 +11,7 @@ use crate::run_usage::run_command;
 use crate::seeds::Seeds;
 use crate::selection::Selection;
 use crate::settings::Settings;
+use crate::shown::Shown;
 use crate::topic::Topic;
 use crate::watch_usage::watch_command;
 use clap::{Arg, ArgAction, ArgMatches, Command, Error};
@@ -25,20 +26,24 @@ pub enum Request<'a> {
         file: &'a str,
         composition: Option<&'a str>,
     },
-    /// To replay the list on standard input in a composition of a source, and to write the states in which it ends.
+    /// To replay the list on standard input in a composition of a source, and to tell of the states in which it ends.
     ReplayStates {
         file: &'a str,
         composition: Option<&'a str>,
+        /// What is told of them.
+        shown: Shown,
     },
     /// To replay the log on standard input in a composition of a source, or in an object.
     ReplayLog {
         file: &'a str,
         composition: Option<&'a str>,
     },
-    /// To replay the log on standard input in a composition of a source, and to write the states in which it ends.
+    /// To replay the log on standard input in a composition of a source, and to tell of the states in which it ends.
     ReplayLogStates {
         file: &'a str,
         composition: Option<&'a str>,
+        /// What is told of them.
+        shown: Shown,
     },
     /// To replay the log on standard input in a composition of a source, and to ask for the source's invariants in each of its states.
     ReplayInvariants {
@@ -221,6 +226,18 @@ fn states_flag<'a>(alloc: Global) -> Arg<'a>
         )
 }
 
+fn enabled_flag<'a>(alloc: Global) -> Arg<'a>
+    ensures rule { rule_of result ≡ enabled_rule }
+    ensures local { result.global ≡ false }
+{
+    Arg::new(alloc, "enabled")
+        .long("enabled")
+        .action(ArgAction::SetTrue)
+        .help(
+            "Of a source: what is enabled in the state that is reached last follows, and the inputs; not with --invariants",
+        )
+}
+
 fn text_argument<'a>(alloc: Global) -> Arg<'a>
     ensures rule { rule_of result ≡ text_rule }
     ensures local { result.global ≡ false }
@@ -327,6 +344,7 @@ fn replay_command<'a>(alloc: Global) -> Result<Command<'a>, AllocError>
     let command = taking(command, log_flag(alloc));
     let command = taking(command, invariants_flag(alloc));
     let command = taking(command, states_flag(alloc));
+    let command = taking(command, enabled_flag(alloc));
     let command = taking(command, until_option(alloc));
     taking(command, explain_flag(alloc))
 }
@@ -346,7 +364,7 @@ fn described_replay<'a>(alloc: Global) -> Command<'a>
              4 list or log refused, invariant broken, or ended not enabled or not an action, 5 memory, the file or a device.",
         )
         .override_usage(
-            "ioac replay [--comp <NAME>] [--log [--invariants]] [--states] [--until <N>] [--explain] <FILE>",
+            "ioac replay [--comp <NAME>] [--log [--invariants]] [--states] [--enabled] [--until <N>] [--explain] <FILE>",
         )
 }
 

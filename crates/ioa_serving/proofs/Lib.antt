@@ -41,3 +41,4 @@ pub mod Traced
 pub mod Unrun
 pub mod Wanting
 pub mod Watching
+pub mod Overt

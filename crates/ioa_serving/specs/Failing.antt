@@ -24,6 +24,7 @@ use Rattle.ioa_log.specs.Replays.{BeginsReplay}
 use Rattle.ioa_serving.specs.declared.failure.Failure.{Failure}
 use Rattle.ioa_serving.specs.Headline.{Spells, IsFileOf, begins_object}
 use Rattle.ioa_serving.specs.Logs.{BeginsLog, BeginsFound, BeginsMonitor}
+use Rattle.ioa_request.specs.declared.shown.Shown.{Shown}
 use Rattle.ioa_serving.specs.States.{BeginsLogStates, BeginsStates}
 use Rattle.ioa_serving.specs.Subjects.{Subject, of_hosts, IsOpen, IsClosed, its_types, its_hidden, its_components, its_starts}
 
@@ -189,11 +190,11 @@ BeginsLogOf text name bytes before after = Given text name bytes (λ s xs. Begin
 abbrev pub BeginsFoundOf : List ℕ → Option Name → Option (List ℕ) → Option (List ℕ) → Option (List ℕ) → Type 0
 BeginsFoundOf text name bytes before after = (h : Hosted) × IsFileOf text name (of_hosts h) × IfSome bytes (λ xs. BeginsFound h xs before after)
 
-abbrev pub BeginsStatesOf : List ℕ → Option Name → Option (List ℕ) → Option (List ℕ) → Option (List ℕ) → Type 0
-BeginsStatesOf text name bytes before after = (h : Hosted) × IsFileOf text name (of_hosts h) × IfSome bytes (λ xs. BeginsStates h xs before after)
+abbrev pub BeginsStatesOf : List ℕ → Option Name → Shown → Option (List ℕ) → Option (List ℕ) → Option (List ℕ) → Type 0
+BeginsStatesOf text name shown bytes before after = (h : Hosted) × IsFileOf text name (of_hosts h) × IfSome bytes (λ xs. BeginsStates h shown xs before after)
 
-abbrev pub BeginsLogStatesOf : List ℕ → Option Name → Option (List ℕ) → Option (List ℕ) → Option (List ℕ) → Type 0
-BeginsLogStatesOf text name bytes before after = (h : Hosted) × IsFileOf text name (of_hosts h) × IfSome bytes (λ xs. BeginsLogStates h xs before after)
+abbrev pub BeginsLogStatesOf : List ℕ → Option Name → Shown → Option (List ℕ) → Option (List ℕ) → Option (List ℕ) → Type 0
+BeginsLogStatesOf text name shown bytes before after = (h : Hosted) × IsFileOf text name (of_hosts h) × IfSome bytes (λ xs. BeginsLogStates h shown xs before after)
 
 abbrev pub BeginsMonitorOf : Bool → List ℕ → Option Name → Option (List ℕ) → Option (List ℕ) → Option (List ℕ) → Type 0
 BeginsMonitorOf json text name bytes before after = Given text name bytes (λ s xs. BeginsMonitor json s xs before after)

@@ -14,6 +14,7 @@ use Rattle.ioa_tree.specs.Runs.{Ending}
 use Rattle.ioa_compile.specs.Programs.{Prog}
 use Rattle.ioa_object.specs.Objects.{IsObject}
 use Rattle.ioa_log.specs.Replays.{Replays}
+use Rattle.ioa_request.specs.declared.shown.Shown.{Shown}
 use Rattle.ioa_serving.specs.Logs.{ReplaysLog, FindsInLog, Found, Monitors}
 use Rattle.ioa_serving.specs.States.{ReplaysLogStates, ReplaysStates}
 use Rattle.ioa_serving.specs.Subjects.{Subject, of_hosts, of_table, its_types, its_hidden, its_components, its_starts}
@@ -62,13 +63,13 @@ IsLogReplay text name bytes ending before after = (s : Subject) × IsFileOf text
 abbrev pub IsInvariantReplay : List ℕ → Option Name → List ℕ → Found → Option (List ℕ) → Option (List ℕ) → Type 0
 IsInvariantReplay text name bytes found before after = (h : Hosted) × IsFileOf text name (of_hosts h) × FindsInLog h bytes found before after
 
--- The bytes are a list, or a log of the run that they do, and what is written is the same as where no states are asked for, and then each
--- variable of the hosts with its value in the state in which their run ends, by the source's names.
-abbrev pub IsStatesReplay : List ℕ → Option Name → List ℕ → Ending → Option (List ℕ) → Option (List ℕ) → Type 0
-IsStatesReplay text name bytes ending before after = (h : Hosted) × IsFileOf text name (of_hosts h) × ReplaysStates h bytes ending before after
+-- The bytes are a list, or a log of the run that they do, and what is written is the same as where nothing is asked of states, and then, of the state
+-- in which the hosts' run ends, each of their variables with its value, by the source's names, or what is enabled, or both.
+abbrev pub IsStatesReplay : List ℕ → Option Name → Shown → List ℕ → Ending → Option (List ℕ) → Option (List ℕ) → Type 0
+IsStatesReplay text name shown bytes ending before after = (h : Hosted) × IsFileOf text name (of_hosts h) × ReplaysStates h shown bytes ending before after
 
-abbrev pub IsLogStatesReplay : List ℕ → Option Name → List ℕ → Ending → Option (List ℕ) → Option (List ℕ) → Type 0
-IsLogStatesReplay text name bytes ending before after = (h : Hosted) × IsFileOf text name (of_hosts h) × ReplaysLogStates h bytes ending before after
+abbrev pub IsLogStatesReplay : List ℕ → Option Name → Shown → List ℕ → Ending → Option (List ℕ) → Option (List ℕ) → Type 0
+IsLogStatesReplay text name shown bytes ending before after = (h : Hosted) × IsFileOf text name (of_hosts h) × ReplaysLogStates h shown bytes ending before after
 
 -- The bytes are a log, of this or of another run, and what is written is whether the hosts or the program accept what it tells to be
 -- performed: the first action that they have and do not perform, if there is one; as an object, or not.

@@ -62,15 +62,15 @@ abbrev pub IsServed : Files → Request → Change → Change → Option (List �
 IsServed f (Request.Replay file composition) input output told wants status =
     (text : List ℕ) × f.holds file.now text
     × ((end : Ending) × IfSome input.before.bytes (λ xs. IsReplay text (option_copied composition) xs end output.before.bytes output.after.bytes) × (status ≡ ending_status end)) × (told ≡ None)
-IsServed f (Request.ReplayStates file composition) input output told wants status =
+IsServed f (Request.ReplayStates file composition shown) input output told wants status =
     (text : List ℕ) × f.holds file.now text
-    × ((end : Ending) × IfSome input.before.bytes (λ xs. IsStatesReplay text (option_copied composition) xs end output.before.bytes output.after.bytes) × (status ≡ ending_status end)) × (told ≡ None)
+    × ((end : Ending) × IfSome input.before.bytes (λ xs. IsStatesReplay text (option_copied composition) shown xs end output.before.bytes output.after.bytes) × (status ≡ ending_status end)) × (told ≡ None)
 IsServed f (Request.ReplayLog file composition) input output told wants status =
     (text : List ℕ) × f.holds file.now text
     × ((end : Ending) × IfSome input.before.bytes (λ xs. IsLogReplay text (option_copied composition) xs end output.before.bytes output.after.bytes) × (status ≡ ending_status end)) × (told ≡ None)
-IsServed f (Request.ReplayLogStates file composition) input output told wants status =
+IsServed f (Request.ReplayLogStates file composition shown) input output told wants status =
     (text : List ℕ) × f.holds file.now text
-    × ((end : Ending) × IfSome input.before.bytes (λ xs. IsLogStatesReplay text (option_copied composition) xs end output.before.bytes output.after.bytes) × (status ≡ ending_status end)) × (told ≡ None)
+    × ((end : Ending) × IfSome input.before.bytes (λ xs. IsLogStatesReplay text (option_copied composition) shown xs end output.before.bytes output.after.bytes) × (status ≡ ending_status end)) × (told ≡ None)
 IsServed f (Request.ReplayInvariants file composition) input output told wants status =
     (text : List ℕ) × f.holds file.now text
     × ((found : Found) × IfSome input.before.bytes (λ xs. IsInvariantReplay text (option_copied composition) xs found output.before.bytes output.after.bytes) × (status ≡ found_status found)) × (told ≡ None)
@@ -120,18 +120,18 @@ IsUnserved f (Request.Replay file composition) input output wants e =
     IsUnread (f.lacks file.now) output e
     ⊎ ((text : List ℕ) × f.holds file.now text × IsFailure text (option_copied composition) input.before.bytes (Failed input ⊎ Failed output) e
     × IsUnwritten (BeginsReplayOf text (option_copied composition) input.before.bytes) output.before.bytes output.after.bytes e)
-IsUnserved f (Request.ReplayStates file composition) input output wants e =
+IsUnserved f (Request.ReplayStates file composition shown) input output wants e =
     IsUnread (f.lacks file.now) output e
     ⊎ ((text : List ℕ) × f.holds file.now text × IsStatesFailure text (option_copied composition) input.before.bytes (Failed input ⊎ Failed output) e
-    × IsUnwritten (BeginsStatesOf text (option_copied composition) input.before.bytes) output.before.bytes output.after.bytes e)
+    × IsUnwritten (BeginsStatesOf text (option_copied composition) shown input.before.bytes) output.before.bytes output.after.bytes e)
 IsUnserved f (Request.ReplayLog file composition) input output wants e =
     IsUnread (f.lacks file.now) output e
     ⊎ ((text : List ℕ) × f.holds file.now text × IsLogReplayFailure text (option_copied composition) input.before.bytes (Failed input ⊎ Failed output) e
     × IsUnwritten (BeginsLogOf text (option_copied composition) input.before.bytes) output.before.bytes output.after.bytes e)
-IsUnserved f (Request.ReplayLogStates file composition) input output wants e =
+IsUnserved f (Request.ReplayLogStates file composition shown) input output wants e =
     IsUnread (f.lacks file.now) output e
     ⊎ ((text : List ℕ) × f.holds file.now text × IsInvariantFailure text (option_copied composition) input.before.bytes (Failed input ⊎ Failed output) e
-    × IsUnwritten (BeginsLogStatesOf text (option_copied composition) input.before.bytes) output.before.bytes output.after.bytes e)
+    × IsUnwritten (BeginsLogStatesOf text (option_copied composition) shown input.before.bytes) output.before.bytes output.after.bytes e)
 IsUnserved f (Request.ReplayInvariants file composition) input output wants e =
     IsUnread (f.lacks file.now) output e
     ⊎ ((text : List ℕ) × f.holds file.now text × IsInvariantFailure text (option_copied composition) input.before.bytes (Failed input ⊎ Failed output) e
@@ -183,9 +183,9 @@ IsUnserved f Request.Library input output wants e = IsUnlisted (Failed output) o
 -- a list, a log or a stream is to be read
 abbrev pub IsReading : Request → Type 0
 IsReading (Request.Replay file composition) = Unit {0}
-IsReading (Request.ReplayStates file composition) = Unit {0}
+IsReading (Request.ReplayStates file composition shown) = Unit {0}
 IsReading (Request.ReplayLog file composition) = Unit {0}
-IsReading (Request.ReplayLogStates file composition) = Unit {0}
+IsReading (Request.ReplayLogStates file composition shown) = Unit {0}
 IsReading (Request.ReplayInvariants file composition) = Unit {0}
 IsReading (Request.Log file composition) = Unit {0}
 IsReading (Request.LogByLog file composition) = Unit {0}
@@ -206,9 +206,9 @@ IsReading Request.Library = ⊥
 -- there is to be a run
 abbrev pub IsRunning : Request → Type 0
 IsRunning (Request.Replay file composition) = ⊥
-IsRunning (Request.ReplayStates file composition) = ⊥
+IsRunning (Request.ReplayStates file composition shown) = ⊥
 IsRunning (Request.ReplayLog file composition) = ⊥
-IsRunning (Request.ReplayLogStates file composition) = ⊥
+IsRunning (Request.ReplayLogStates file composition shown) = ⊥
 IsRunning (Request.ReplayInvariants file composition) = ⊥
 IsRunning (Request.Log file composition) = ⊥
 IsRunning (Request.LogByLog file composition) = ⊥
@@ -229,9 +229,9 @@ IsRunning Request.Library = ⊥
 -- a file is to be written
 abbrev pub IsSaving : Request → Type 0
 IsSaving (Request.Replay file composition) = ⊥
-IsSaving (Request.ReplayStates file composition) = ⊥
+IsSaving (Request.ReplayStates file composition shown) = ⊥
 IsSaving (Request.ReplayLog file composition) = ⊥
-IsSaving (Request.ReplayLogStates file composition) = ⊥
+IsSaving (Request.ReplayLogStates file composition shown) = ⊥
 IsSaving (Request.ReplayInvariants file composition) = ⊥
 IsSaving (Request.Log file composition) = ⊥
 IsSaving (Request.LogByLog file composition) = ⊥

@@ -30,9 +30,9 @@ composition_of request = option_and_then (λ p. p.1) (source_of request)
 abbrev pub specifications_of : Request → List Name
 specifications_of (Request.Watch file compositions first counts json) = texts compositions.now
 specifications_of (Request.Replay file composition) = []
-specifications_of (Request.ReplayStates file composition) = []
+specifications_of (Request.ReplayStates file composition shown) = []
 specifications_of (Request.ReplayLog file composition) = []
-specifications_of (Request.ReplayLogStates file composition) = []
+specifications_of (Request.ReplayLogStates file composition shown) = []
 specifications_of (Request.ReplayInvariants file composition) = []
 specifications_of (Request.Log file composition) = []
 specifications_of (Request.LogByLog file composition) = []

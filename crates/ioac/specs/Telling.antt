@@ -1,5 +1,5 @@
 -- What is told on standard error.
-use Rattle.std.specs.Prelude.{◌≡◌, ℕ, ◌⊎◌, ◌++◌, ◌∷◌, ◌&&◌, Bool, true, false, if◌then◌else◌, is_some, List, [], Option, Some, None, take, codes}
+use Rattle.std.specs.Prelude.{◌≡◌, ℕ, ◌⊎◌, ◌++◌, ◌∷◌, ◌&&◌, ◌||◌, Bool, true, false, if◌then◌else◌, is_some, List, [], Option, Some, None, take, codes}
 use Rattle.std.specs.List.{join_by}
 use Rattle.std.specs.Option.{option_map_or}
 use Rattle.std.specs.Str.{bytes_eq}
@@ -59,9 +59,9 @@ abbrev pub missing_log_text : List ℕ
 missing_log_text =
     codes "error: the following required arguments were not provided:\n  --log\n\nUsage: ioac replay --log --invariants <FILE>" ++ try_help
 
--- of invariants and states that are asked for together
+-- of invariants that are asked for together with what is told of states
 abbrev pub two_questions_text : List ℕ
-two_questions_text = codes "error: the argument '--invariants' cannot be used with '--states'" ++ try_help
+two_questions_text = codes "error: the argument '--invariants' cannot be used with '--states' or '--enabled'" ++ try_help
 
 -- of a value that an option does not take, with what it takes
 abbrev pub invalid_value_text : Text → List ℕ → List ℕ → List ℕ
@@ -143,9 +143,9 @@ bad_bounds_text None to = bad_last_text to
 bad_bounds_text (Some word) to =
     if is_some (bound_in (Some word)) then bad_last_text to else invalid_value_text word (codes "--from <N>") (codes "a whole number of 64 bits")
 
--- invariants and states are asked for
+-- invariants are asked for, and to tell of states
 abbrev pub asks_both : List Row → Bool
-asks_both rows = is_set (codes "invariants") rows && is_set (codes "states") rows
+asks_both rows = is_set (codes "invariants") rows && (is_set (codes "states") rows || is_set (codes "enabled") rows)
 
 -- of a replay that is asked for both, or of a list for invariants
 abbrev pub bad_replay_text : Bool → List ℕ

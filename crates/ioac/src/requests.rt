@@ -13,7 +13,7 @@ ghost use Rattle.ioa_serving.specs.declared.failure.Failure.{Failure};
 ghost use Rattle.ioac.specs.Requests.{Fails, Serves};
 
 use ioa_log::{InputDevice, OutputDevice};
-use ioa_request::{Request, Selection, Topic};
+use ioa_request::{Request, Selection, Shown, Topic};
 use ioa_serving::explain::explain;
 use ioa_serving::{
     Failure, Finding, Ran, Served, Status, Store, chart_log_text, check_text, compile_file,
@@ -56,16 +56,24 @@ pub(crate) fn serve<H: Threads + Wait + Clock + Sync, F: Store, R: InputDevice, 
             replay(alloc, file, *composition, store, input, output),
             None,
         ),
-        Request::ReplayStates { file, composition } => (
-            replay_states(alloc, file, *composition, store, input, output),
+        Request::ReplayStates {
+            file,
+            composition,
+            shown,
+        } => (
+            replay_states(alloc, file, *composition, *shown, store, input, output),
             None,
         ),
         Request::ReplayLog { file, composition } => (
             replay_log(alloc, file, *composition, store, input, output),
             None,
         ),
-        Request::ReplayLogStates { file, composition } => (
-            replay_log_states(alloc, file, *composition, store, input, output),
+        Request::ReplayLogStates {
+            file,
+            composition,
+            shown,
+        } => (
+            replay_log_states(alloc, file, *composition, *shown, store, input, output),
             None,
         ),
         Request::ReplayInvariants { file, composition } => (
@@ -162,22 +170,23 @@ fn replay<F: Store, R: InputDevice, W: OutputDevice>(
     Ok(silent(status_of(end)))
 }
 
-/// Replays the list on standard input, and writes the states in which it ends.
+/// Replays the list on standard input, and tells of the states in which it ends.
 fn replay_states<F: Store, R: InputDevice, W: OutputDevice>(
     alloc: Global,
     file: &str,
     composition: Option<&str>,
+    shown: Shown,
     store: &F,
     input: &mut R,
     output: &mut W,
 ) -> Result<Served, Failure>
-    ensures served { IfOk result (λ s. Serves (read_only F.holds F.lacks store.now) (requests.ReplayStates file.entry composition.entry) (change R.remaining R.failure_count input.old input.new) (change W.contents W.failure_count output.old output.new) s) }
-    ensures refused { IfErr result (λ e. Fails (read_only F.holds F.lacks store.now) (requests.ReplayStates file.entry composition.entry) (change R.remaining R.failure_count input.old input.new) (change W.contents W.failure_count output.old output.new) e) }
+    ensures served { IfOk result (λ s. Serves (read_only F.holds F.lacks store.now) (requests.ReplayStates file.entry composition.entry shown) (change R.remaining R.failure_count input.old input.new) (change W.contents W.failure_count output.old output.new) s) }
+    ensures refused { IfErr result (λ e. Fails (read_only F.holds F.lacks store.now) (requests.ReplayStates file.entry composition.entry shown) (change R.remaining R.failure_count input.old input.new) (change W.contents W.failure_count output.old output.new) e) }
     ensures passed { (IsErrOf result (Failure.List LogErr.Io) → ⊥) → (R.failure_count input.new ≡ R.failure_count input.old) × (W.failure_count output.new ≡ W.failure_count output.old) }
     ensures once { FailedOnceAtMost (R.failure_count input.old) (R.failure_count input.new) × FailedOnceAtMost (W.failure_count output.old) (W.failure_count output.new) }
 {
     let text = store.load(alloc, file)?;
-    let end = replay_states_text(alloc, text.as_slice(), composition, input, output)?;
+    let end = replay_states_text(alloc, text.as_slice(), composition, shown, input, output)?;
     Ok(silent(status_of(end)))
 }
 
@@ -200,22 +209,23 @@ fn replay_log<F: Store, R: InputDevice, W: OutputDevice>(
     Ok(silent(status_of(end)))
 }
 
-/// Replays the log on standard input, and writes the states in which it ends.
+/// Replays the log on standard input, and tells of the states in which it ends.
 fn replay_log_states<F: Store, R: InputDevice, W: OutputDevice>(
     alloc: Global,
     file: &str,
     composition: Option<&str>,
+    shown: Shown,
     store: &F,
     input: &mut R,
     output: &mut W,
 ) -> Result<Served, Failure>
-    ensures served { IfOk result (λ s. Serves (read_only F.holds F.lacks store.now) (requests.ReplayLogStates file.entry composition.entry) (change R.remaining R.failure_count input.old input.new) (change W.contents W.failure_count output.old output.new) s) }
-    ensures refused { IfErr result (λ e. Fails (read_only F.holds F.lacks store.now) (requests.ReplayLogStates file.entry composition.entry) (change R.remaining R.failure_count input.old input.new) (change W.contents W.failure_count output.old output.new) e) }
+    ensures served { IfOk result (λ s. Serves (read_only F.holds F.lacks store.now) (requests.ReplayLogStates file.entry composition.entry shown) (change R.remaining R.failure_count input.old input.new) (change W.contents W.failure_count output.old output.new) s) }
+    ensures refused { IfErr result (λ e. Fails (read_only F.holds F.lacks store.now) (requests.ReplayLogStates file.entry composition.entry shown) (change R.remaining R.failure_count input.old input.new) (change W.contents W.failure_count output.old output.new) e) }
     ensures passed { (IsErrOf result (Failure.List LogErr.Io) → ⊥) → (R.failure_count input.new ≡ R.failure_count input.old) × (W.failure_count output.new ≡ W.failure_count output.old) }
     ensures once { FailedOnceAtMost (R.failure_count input.old) (R.failure_count input.new) × FailedOnceAtMost (W.failure_count output.old) (W.failure_count output.new) }
 {
     let text = store.load(alloc, file)?;
-    let end = replay_log_states_text(alloc, text.as_slice(), composition, input, output)?;
+    let end = replay_log_states_text(alloc, text.as_slice(), composition, shown, input, output)?;
     Ok(silent(status_of(end)))
 }
 

@@ -75,8 +75,8 @@ fn shown<W: OutputDevice, E: OutputDevice>(
 }
 
 /// Tells of a command line that has no fault and asks for nothing, and answers the exit status. It asks for what there is no explanation of, for the
-/// invariants of a list, for invariants and states, for a run whose settings are none, for a chart within bounds that are none, or for a list or a log
-/// up to a bound that is none.
+/// invariants of a list, for invariants and what is told of states, for a run whose settings are none, for a chart within bounds that are none, or for
+/// a list or a log up to a bound that is none.
 pub fn told_unasked<E: OutputDevice>(
     alloc: Global,
     matches: &ArgMatches<'_>,
@@ -219,13 +219,14 @@ fn seeds_option(found: &ArgMatches<'_>) -> &'static str
     }
 }
 
-/// Whether a replay is asked for invariants and for states.
+/// Whether a replay is asked for invariants, and to tell of states.
 fn asks_both(found: &ArgMatches<'_>) -> bool
     ensures { result ≡ telling.asks_both (rows_of (found_of found.now)) }
 {
     let invariants = is_set(found, "invariants");
     let states = is_set(found, "states");
-    invariants && states
+    let enabled = is_set(found, "enabled");
+    invariants && (states || enabled)
 }
 
 /// What is wrong with the words for a run: with those for its turns, or else with the source of its workers' words.
@@ -335,13 +336,13 @@ fn known_codes(alloc: Global) -> Result<String, AllocError>
     Code::ALL.as_slice().join(alloc, ", ")
 }
 
-/// That invariants and states are not asked for together, in the same manner.
+/// That invariants and what is told of states are not asked for together, in the same manner.
 fn two_questions_text(alloc: Global) -> Result<String, AllocError>
     ensures { IfOk result (λ text. string_bytes text ≡ telling.two_questions_text) }
 {
     String::from_str(
         alloc,
-        "error: the argument '--invariants' cannot be used with '--states'\n\nFor more information, try '--help'.\n",
+        "error: the argument '--invariants' cannot be used with '--states' or '--enabled'\n\nFor more information, try '--help'.\n",
     )
 }
 

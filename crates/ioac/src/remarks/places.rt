@@ -117,9 +117,17 @@ pub fn source_of<'a>(asked: &Request<'a>) -> Option<(&'a str, Option<&'a str>)>
 {
     match asked {
         Request::Replay { file, composition } => Some((*file, *composition)),
-        Request::ReplayStates { file, composition } => Some((*file, *composition)),
+        Request::ReplayStates {
+            file,
+            composition,
+            ..
+        } => Some((*file, *composition)),
         Request::ReplayLog { file, composition } => Some((*file, *composition)),
-        Request::ReplayLogStates { file, composition } => Some((*file, *composition)),
+        Request::ReplayLogStates {
+            file,
+            composition,
+            ..
+        } => Some((*file, *composition)),
         Request::ReplayInvariants { file, composition } => Some((*file, *composition)),
         Request::Log { file, composition } => Some((*file, *composition)),
         Request::LogByLog { file, composition } => Some((*file, *composition)),

@@ -13,24 +13,24 @@ pub returns-then-not-is_bounded-clause-none : goal.returns-then-not-is_bounded-c
 returns-then-not-is_bounded-clause-none c =
     no_bound (codes "replay") (rows_of (found_of c.args.found.now)) (inl refl) (sym c.is_bounded.ensures ∙ c.if-not-is_bounded.true)
 
-pub returns-in-false-false-false-clause-some : goal.returns-in-false-false-false-clause-some
-returns-in-false-false-false-clause-some c = ((refl, sym c.in-false-false-false.ensures, sym c.in-false-false-false.ensures', sym c.in-false-false-false.ensures'', sym c.is_bounded.ensures ∙ c.if-not-is_bounded.false), c.in_ok-file.ensures.some)
+pub returns-in-false-false-None-clause-some : goal.returns-in-false-false-None-clause-some
+returns-in-false-false-None-clause-some c = ((refl, sym c.in-false-false-None.ensures, sym c.in-false-false-None.ensures', sym c.in-false-false-None.ensures'', sym c.is_bounded.ensures ∙ c.if-not-is_bounded.false), c.in_ok-file.ensures.some)
 
-pub returns-in-false-false-true-clause-some : goal.returns-in-false-false-true-clause-some
-returns-in-false-false-true-clause-some c = ((refl, sym c.in-false-false-true.ensures, sym c.in-false-false-true.ensures', sym c.in-false-false-true.ensures'', sym c.is_bounded.ensures ∙ c.if-not-is_bounded.false), c.in_ok-file.ensures.some)
+pub returns-in-false-false-Some-clause-some : goal.returns-in-false-false-Some-clause-some
+returns-in-false-false-Some-clause-some c = ((refl, sym c.in-false-false-Some.ensures, sym c.in-false-false-Some.ensures', sym c.in-false-false-Some.ensures'', sym c.is_bounded.ensures ∙ c.if-not-is_bounded.false), c.in_ok-file.ensures.some)
 
-pub returns-in-true-false-false-clause-some : goal.returns-in-true-false-false-clause-some
-returns-in-true-false-false-clause-some c = ((refl, sym c.in-true-false-false.ensures, sym c.in-true-false-false.ensures', sym c.in-true-false-false.ensures'', sym c.is_bounded.ensures ∙ c.if-not-is_bounded.false), c.in_ok-file.ensures.some)
+pub returns-in-true-false-None-clause-some : goal.returns-in-true-false-None-clause-some
+returns-in-true-false-None-clause-some c = ((refl, sym c.in-true-false-None.ensures, sym c.in-true-false-None.ensures', sym c.in-true-false-None.ensures'', sym c.is_bounded.ensures ∙ c.if-not-is_bounded.false), c.in_ok-file.ensures.some)
 
-pub returns-in-true-false-true-clause-some : goal.returns-in-true-false-true-clause-some
-returns-in-true-false-true-clause-some c = ((refl, sym c.in-true-false-true.ensures, sym c.in-true-false-true.ensures', sym c.in-true-false-true.ensures'', sym c.is_bounded.ensures ∙ c.if-not-is_bounded.false), c.in_ok-file.ensures.some)
+pub returns-in-true-false-Some-clause-some : goal.returns-in-true-false-Some-clause-some
+returns-in-true-false-Some-clause-some c = ((refl, sym c.in-true-false-Some.ensures, sym c.in-true-false-Some.ensures', sym c.in-true-false-Some.ensures'', sym c.is_bounded.ensures ∙ c.if-not-is_bounded.false), c.in_ok-file.ensures.some)
 
-pub returns-in-true-true-false-clause-some : goal.returns-in-true-true-false-clause-some
-returns-in-true-true-false-clause-some c = ((refl, sym c.in-true-true-false.ensures, sym c.in-true-true-false.ensures', sym c.in-true-true-false.ensures'', sym c.is_bounded.ensures ∙ c.if-not-is_bounded.false), c.in_ok-file.ensures.some)
+pub returns-in-true-true-None-clause-some : goal.returns-in-true-true-None-clause-some
+returns-in-true-true-None-clause-some c = ((refl, sym c.in-true-true-None.ensures, sym c.in-true-true-None.ensures', sym c.in-true-true-None.ensures'', sym c.is_bounded.ensures ∙ c.if-not-is_bounded.false), c.in_ok-file.ensures.some)
 
-pub returns-in-true-true-true-clause-none : goal.returns-in-true-true-true-clause-none
-returns-in-true-true-true-clause-none c =
-    no_both (codes "replay") (rows_of (found_of c.args.found.now)) refl (sym c.in-true-true-true.ensures') (sym c.in-true-true-true.ensures'')
+pub returns-in-true-true-Some-clause-none : goal.returns-in-true-true-Some-clause-none
+returns-in-true-true-Some-clause-none c =
+    no_both (codes "replay") (rows_of (found_of c.args.found.now)) c.in-true-true-Some.field-0-2 refl (sym c.in-true-true-Some.ensures') (sym c.in-true-true-Some.ensures'')
 
 pub returns-in-false-true-default-clause-none : goal.returns-in-false-true-default-clause-none
 returns-in-false-true-default-clause-none c = no_log (codes "replay") (rows_of (found_of c.args.found.now)) refl (sym c.in-false-true-default.ensures) (sym c.in-false-true-default.ensures')

@@ -1,6 +1,6 @@
 use Rattle.std.proofs.Common.{codes}
 use Rattle.clap.specs.Words.{App, new_app, with_rule}
-use Rattle.ioa_request.specs.CommandLine.{comp_rule, explain_rule, file_rule, invariants_rule, log_rule, states_rule, until_rule}
+use Rattle.ioa_request.specs.CommandLine.{comp_rule, enabled_rule, explain_rule, file_rule, invariants_rule, log_rule, states_rule, until_rule}
 use Rattle.ioa_request.proofs.request.replay_command.Goals as goal
 
 pub returns-clause-app : goal.returns-clause-app
@@ -16,9 +16,11 @@ returns-clause-app c =
     let four = c.taking-command-4.ensures.app has_three invariants_rule three c.invariants_flag.ensures.local c.invariants_flag.ensures.rule in
     let has_five : App = with_rule has_four states_rule in
     let five = c.taking-command-5.ensures.app has_four states_rule four c.states_flag.ensures.local c.states_flag.ensures.rule in
-    let has_six : App = with_rule has_five until_rule in
-    let six = c.taking-command-6.ensures.app has_five until_rule five c.until_option.ensures.local c.until_option.ensures.rule in
-    c.taking.ensures.app has_six explain_rule six c.explain_flag.ensures.local c.explain_flag.ensures.rule
+    let has_six : App = with_rule has_five enabled_rule in
+    let six = c.taking-command-6.ensures.app has_five enabled_rule five c.enabled_flag.ensures.local c.enabled_flag.ensures.rule in
+    let has_seven : App = with_rule has_six until_rule in
+    let seven = c.taking-command-7.ensures.app has_six until_rule six c.until_option.ensures.local c.until_option.ensures.rule in
+    c.taking.ensures.app has_seven explain_rule seven c.explain_flag.ensures.local c.explain_flag.ensures.rule
 
 pub returns-clause-local : goal.returns-clause-local
 returns-clause-local c =
@@ -27,5 +29,6 @@ returns-clause-local c =
     let three = c.taking-command-3.ensures.local two c.log_flag.ensures.local in
     let four = c.taking-command-4.ensures.local three c.invariants_flag.ensures.local in
     let five = c.taking-command-5.ensures.local four c.states_flag.ensures.local in
-    let six = c.taking-command-6.ensures.local five c.until_option.ensures.local in
-    c.taking.ensures.local six c.explain_flag.ensures.local
+    let six = c.taking-command-6.ensures.local five c.enabled_flag.ensures.local in
+    let seven = c.taking-command-7.ensures.local six c.until_option.ensures.local in
+    c.taking.ensures.local seven c.explain_flag.ensures.local

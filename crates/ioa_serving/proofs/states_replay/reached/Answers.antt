@@ -1,14 +1,16 @@
 use Rattle.std.proofs.Common.{◌++◌, IfSome, ap, subst, sym, ◌∙◌}
 use Rattle.std.proofs.lemmas.Option.{IfSome_then}
 use Rattle.std.proofs.lemmas.Result.{err_from_is_err_and}
-use Rattle.ioa_value.specs.Lists.{BadLine}
+use Rattle.ioa_value.specs.Lists.{BadLine, ReadsList}
 use Rattle.ioa_tree.specs.Hosts.{hosts_of, host_starts}
 use Rattle.ioa_tree.specs.Likes.{AllRelated}
 use Rattle.ioa_tree.specs.Runs.{run}
 use Rattle.ioa_compose.specs.Held.{composed_of}
-use Rattle.ioa_compose.specs.Simulates.{SlotsHoldAt}
+use Rattle.ioa_compile.specs.Subjects.{HoldsTyped, RunsAs, of_hosts}
+use Rattle.ioa_compile.proofs.Subjects.{does_as, run_as}
 use Rattle.ioa_system.specs.Systems.{values_of}
-use Rattle.ioa_account.specs.States.{state_lines}
+use Rattle.ioa_log.proofs.LogReplays.{text_as}
+use Rattle.ioa_serving.specs.States.{shown_lines}
 use Rattle.ioa_serving.proofs.Refused.{err_as}
 use Rattle.ioa_serving.proofs.states_replay.reached.Goals as goal
 
@@ -19,14 +21,17 @@ returns-in_err-replayed-clause-bad g c = λ n r.
     subst (λ ts. IfSome (g.R.Read.remaining c.args.input.now) (λ xs. BadLine ts xs n)) c.in_ok-program.ensures.types said
 
 pub returns-clause-reaches : goal.returns-clause-reaches
-returns-clause-reaches g c = λ h stands.
-    IfSome_then (g.R.Read.remaining c.args.input.now)
-    (c.in_ok-replayed.ensures.hosts h (composed_of c.args.composition.now) stands c.in_ok-program.ensures)
-    (λ xs k. (
+returns-clause-reaches g c = λ h over stands.
+    let runs : RunsAs c.in_ok-program.program (of_hosts h) = (composed_of c.args.composition.now, stands, c.in_ok-program.ensures) in
+    IfSome_then (g.R.Read.remaining c.args.input.now) c.in_ok-replayed.ensures.ok
+    (λ xs k.
+    let r = run_as c.in_ok-program.program (of_hosts h) runs k.acts in
+    let states = (run (hosts_of h) k.acts (host_starts h)).states in (
       k.acts,
-      k.reads,
-      k.ending,
-      c.in_ok-put_states.ensures h (run (hosts_of h) k.acts (host_starts h)).states stands
-          (subst (λ ns. AllRelated (SlotsHoldAt h.hosts) 0 (run (hosts_of h) k.acts (host_starts h)).states (values_of ns)) (sym c.deref.ensures.value) k.states)
-          ∙ ap (λ told. told ++ state_lines h.types h.hosts (run (hosts_of h) k.acts (host_starts h)).states) k.text,
+      subst (λ ts. ReadsList ts xs k.acts) (does_as c.in_ok-program.program (of_hosts h) runs).types k.reads,
+      k.ending ∙ sym r.ending,
+      c.in_ok-put_shown.ensures h states over stands c.in_ok-program.ensures
+          (subst (λ ns. AllRelated (HoldsTyped h.hosts c.in_ok-program.program.members) 0 states (values_of ns)) (sym c.deref.ensures.value)
+          (subst (λ vss. AllRelated (HoldsTyped h.hosts c.in_ok-program.program.members) 0 states vss) (sym k.states) r.states))
+          ∙ ap (λ told. told ++ shown_lines h c.args.shown states) (k.text ∙ text_as c.in_ok-program.program (of_hosts h) runs k.acts),
     ))

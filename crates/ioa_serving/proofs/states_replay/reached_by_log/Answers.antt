@@ -5,12 +5,11 @@ use Rattle.ioa_tree.specs.Hosts.{hosts_of, host_starts}
 use Rattle.ioa_tree.specs.Likes.{AllRelated}
 use Rattle.ioa_tree.specs.Runs.{run}
 use Rattle.ioa_compose.specs.Held.{composed_of}
-use Rattle.ioa_compose.specs.Simulates.{SlotsHoldAt}
 use Rattle.ioa_compile.specs.Subjects as compiled
-use Rattle.ioa_compile.proofs.Subjects.{all_held}
+use Rattle.ioa_compile.specs.Subjects.{HoldsTyped}
 use Rattle.ioa_system.specs.Logs.{actions_of}
 use Rattle.ioa_system.specs.Systems.{values_of}
-use Rattle.ioa_account.specs.States.{state_lines}
+use Rattle.ioa_serving.specs.States.{shown_lines}
 use Rattle.ioa_serving.proofs.Refused.{err_so}
 use Rattle.ioa_serving.proofs.states_replay.reached_by_log.Goals as goal
 
@@ -21,7 +20,7 @@ returns-in_err-performed-clause-refused g c =
     (λ h stands. c.in_err-performed.ensures.subjects_refused (compiled.of_hosts h) (composed_of c.args.composition.now, stands, c.in_ok-program.ensures))
 
 pub returns-clause-reaches : goal.returns-clause-reaches
-returns-clause-reaches g c = λ h stands.
+returns-clause-reaches g c = λ h over stands.
     IfSome_then (g.R.Read.remaining c.args.input.now)
     (c.in_ok-performed.ensures.subjects (compiled.of_hosts h) (composed_of c.args.composition.now, stands, c.in_ok-program.ensures))
     (λ xs k.
@@ -29,7 +28,7 @@ returns-clause-reaches g c = λ h stands.
       k.log,
       k.is_log,
       k.ending,
-      c.in_ok-put_states.ensures h states stands
-          (subst (λ ns. AllRelated (SlotsHoldAt h.hosts) 0 states (values_of ns)) (sym c.deref.ensures.value) (all_held c.in_ok-program.program h 0 states _ k.states))
-          ∙ ap (λ told. told ++ state_lines h.types h.hosts states) k.text,
+      c.in_ok-put_shown.ensures h states over stands c.in_ok-program.ensures
+          (subst (λ ns. AllRelated (HoldsTyped h.hosts c.in_ok-program.program.members) 0 states (values_of ns)) (sym c.deref.ensures.value) k.states)
+          ∙ ap (λ told. told ++ shown_lines h c.args.shown states) k.text,
     ))

@@ -6,6 +6,7 @@ use Rattle.std.proofs.lemmas.Result.{err_from_is_err_and}
 use Rattle.ioa_log.specs.declared.failure.LogErr.{LogErr}
 use Rattle.ioa_serving.specs.declared.failure.Failure.{Failure}
 use Rattle.ioa_serving.specs.Subjects.{of_hosts}
+use Rattle.ioa_serving.proofs.Overt.{are_over}
 use Rattle.ioa_serving.proofs.Refused.{err_so, log_replay_refused}
 use Rattle.ioa_serving.proofs.states_replay.replay_log_states_text.Goals as goal
 
@@ -50,7 +51,7 @@ returns-in_err-send_all-clause-unwritten g c =
     (inr (
       of.0,
       (source, of.1),
-      IfSome_then (g.R.Read.remaining c.args.input.now) (c.in_ok-told.ensures.reaches of.0 of.2) (λ xs r. (_, _, r, begun)),
+      IfSome_then (g.R.Read.remaining c.args.input.now) (c.in_ok-told.ensures.reaches of.0 (are_over of.1.source of.1.tree of.0 of.1.is_hosted) of.2) (λ xs r. (_, _, r, begun)),
     ))
 
 pub returns-clause-replays : goal.returns-clause-replays
@@ -58,4 +59,4 @@ returns-clause-replays g c =
     let of = c.in_ok-composed.ensures.composes in
     let source = sym c.is_object.ensures ∙ c.if-is_object.false in
     let all = subst (λ t. Appends (g.W.Write.contents c.args.output.now) (g.W.Write.contents c.send_all.new.output) t) c.as_bytes.ensures.value c.in_ok-send_all.ensures.ok in
-    IfSome_then (g.R.Read.remaining c.args.input.now) (c.in_ok-told.ensures.reaches of.0 of.2) (λ xs r. (of.0, (source, of.1), (_, r, all)))
+    IfSome_then (g.R.Read.remaining c.args.input.now) (c.in_ok-told.ensures.reaches of.0 (are_over of.1.source of.1.tree of.0 of.1.is_hosted) of.2) (λ xs r. (of.0, (source, of.1), (_, r, all)))

@@ -1,0 +1,24 @@
+//! What is enabled in the states of a program's components: the actions of which chance may make its entries propose one, and which of these may be
+//! performed.
+#![tactic(auto)]
+
+// What an entry's code gives by equal words.
+mod columns;
+mod samples;
+
+// Preconditions, and what is told of an entry.
+mod combinations;
+mod guards;
+mod offers;
+
+// Lines of text.
+mod placing;
+mod signatures;
+mod telling;
+
+// Laws.
+mod laws;
+
+pub use laws::{offers_are_the_hosts, ways_are_proposals};
+pub use offers::{Offer, offer_of};
+pub use telling::{MOST, put_enabled};
