@@ -10,3 +10,4 @@ pub mod Gathering
 pub mod Carrying
 pub mod Trying
 pub mod Readying
+pub mod Silence

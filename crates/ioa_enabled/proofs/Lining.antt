@@ -26,12 +26,12 @@ use Rattle.ioa_compile.proofs.HostEntries.{entries_are_the_hosts}
 use Rattle.ioa_compile.proofs.Subjects.{does_as}
 use Rattle.ioa_picture.specs.Lines.{numbered}
 use Rattle.ioa_run.proofs.Alike.{Both, related_at}
+use Rattle.ioa_enabled.specs.declared.part.Part.{Part}
 use Rattle.ioa_enabled.specs.declared.telling.TheConstants.{MOST}
 use Rattle.ioa_enabled.specs.Hosted.{OffersAs}
 use Rattle.ioa_enabled.specs.Placed.{AreOfMember, AreOfMembers}
 use Rattle.ioa_enabled.specs.Sampled.{HasWays}
-use Rattle.ioa_enabled.specs.Signed.{input_lines}
-use Rattle.ioa_enabled.specs.Told.{AllHaveWays, ShareTypes, HaveWays, code_lines, enabled_lines, lines_of_entry, lines_of_host, lines_at, lines_of, member_lines, offer_lines}
+use Rattle.ioa_enabled.specs.Told.{AllHaveWays, ShareTypes, HaveWays, code_lines, inputs_in, lines_in, lines_of_entry, lines_of_host, lines_at, lines_of, member_lines, part_lines}
 use Rattle.ioa_enabled.specs.Ways.{Values, enabled_ways, first_ways, is_enabled, total, ways}
 use Rattle.ioa_enabled.proofs.Hosting.{offered, some_same}
 
@@ -83,7 +83,7 @@ signal_not_local (Some c) a k e n s = behind a.entries k n s
 abbrev pub ways_in : Option Host → Option (HostState Env) → ℕ → List Values
 ways_in o q k = option_map_or (λ (p : Host). option_map_or (λ (s : HostState Env). option_map_or (λ (e : EntryTree). ways p.instance e s.inner) (slice_get p.instance.automaton.entries k) []) q []) o []
 
-module _ (p : Prog) (h : Hosted) (program : IsProgram p) (runs : Runs p h) (over : ShareTypes h) (hs : List (HostState Env)) (vss : List (List Val))
+module _ (part : Part) (p : Prog) (h : Hosted) (program : IsProgram p) (runs : Runs p h) (over : ShareTypes h) (hs : List (HostState Env)) (vss : List (List Val))
     (held : AllRelated (HoldsTyped h.hosts p.members) 0 hs vss) where
   abbrev pub its_ways : ℕ → ℕ → List Values
   its_ways i k = ways_in (slice_get h.hosts i) (slice_get hs i) k
@@ -105,17 +105,17 @@ module _ (p : Prog) (h : Hosted) (program : IsProgram p) (runs : Runs p h) (over
         ∙ ap (λ o. option_map_or (λ (x : EntryTree). ways host.instance x state.inner) o []) here
 
     entry_told : (k : ℕ) (e : EntryTree) → slice_get host.instance.automaton.entries k ≡ Some e
-        → (d : EntryCode) × (slice_get m.entries k ≡ Some d) × (code_lines p.types made.0.name m slots (its_ways i) k d ≡ lines_of_entry h.types host state e)
+        → (d : EntryCode) × (slice_get m.entries k ≡ Some d) × (code_lines part p.types made.0.name m slots (its_ways i) k d ≡ lines_of_entry part h.types host state e)
     entry_told k e here = go (is_local (Some e.kind)) refl
       where
-        go : (b : Bool) → is_local (Some e.kind) ≡ b → (d : EntryCode) × (slice_get m.entries k ≡ Some d) × (code_lines p.types made.0.name m slots (its_ways i) k d ≡ lines_of_entry h.types host state e)
+        go : (b : Bool) → is_local (Some e.kind) ≡ b → (d : EntryCode) × (slice_get m.entries k ≡ Some d) × (code_lines part p.types made.0.name m slots (its_ways i) k d ≡ lines_of_entry part h.types host state e)
         go false other =
             let mine = entries_are_the_hosts p h runs.0 runs.1 runs.2 i k host e m at here there in
             let kind : is_local (Some mine.0.kind) ≡ false = ap (λ x. is_local (Some x)) mine.2.kind ∙ other in (
               mine.0,
               mine.1,
-              ap (λ b. cond b (offer_lines p.types made.0.name mine.0.name (nat_lt MOST (total (its_ways i k))) (enabled_ways (table_component m) slots mine.0.name (its_ways i k) MOST)) []) kind
-                  ∙ sym (ap (λ b. cond b (offer_lines h.types host.name e.name (nat_lt MOST (total (ways host.instance e state.inner))) (enabled_ways (host_of host) state e.name (ways host.instance e state.inner) MOST)) []) other),
+              ap (λ b. cond b (lines_in part p.types made.0.name mine.0.name (nat_lt MOST (total (its_ways i k))) (enabled_ways (table_component m) slots mine.0.name (its_ways i k) MOST)) []) kind
+                  ∙ sym (ap (λ b. cond b (lines_in part h.types host.name e.name (nat_lt MOST (total (ways host.instance e state.inner))) (enabled_ways (host_of host) state e.name (ways host.instance e state.inner) MOST)) []) other),
             )
         go true local =
             let found = offered p h program runs i k host e m at (over i host at) here local there in
@@ -127,13 +127,13 @@ module _ (p : Prog) (h : Hosted) (program : IsProgram p) (runs : Runs p h) (over
             let test : is_enabled (table_component m) slots ≡ is_enabled (host_of host) state = fun_ext (λ a. sym (same.enabled a)) in (
               d,
               found.1,
-              ap (λ b. cond b (offer_lines p.types made.0.name d.name (nat_lt MOST (total (its_ways i k))) (enabled_ways (table_component m) slots d.name (its_ways i k) MOST)) []) kind
-                  ∙ ap (λ ws. offer_lines p.types made.0.name d.name (nat_lt MOST (total ws)) (enabled_ways (table_component m) slots d.name ws MOST)) its
-                  ∙ ap (λ (ts : Table). offer_lines ts made.0.name d.name (nat_lt MOST (total cs)) (enabled_ways (table_component m) slots d.name cs MOST)) (does_as p (of_hosts h) runs).types
-                  ∙ ap (λ (x : Name). offer_lines h.types x d.name (nat_lt MOST (total cs)) (enabled_ways (table_component m) slots d.name cs MOST)) of_host.name
-                  ∙ ap (λ (x : Name). offer_lines h.types host.name x (nat_lt MOST (total cs)) (enabled_ways (table_component m) slots x cs MOST)) same.name
-                  ∙ ap (λ (t : Act → Bool). offer_lines h.types host.name e.name (nat_lt MOST (total cs)) (filter t (first_ways e.name cs MOST))) test
-                  ∙ sym (ap (λ b. cond b (offer_lines h.types host.name e.name (nat_lt MOST (total cs)) (enabled_ways (host_of host) state e.name cs MOST)) []) local),
+              ap (λ b. cond b (lines_in part p.types made.0.name d.name (nat_lt MOST (total (its_ways i k))) (enabled_ways (table_component m) slots d.name (its_ways i k) MOST)) []) kind
+                  ∙ ap (λ ws. lines_in part p.types made.0.name d.name (nat_lt MOST (total ws)) (enabled_ways (table_component m) slots d.name ws MOST)) its
+                  ∙ ap (λ (ts : Table). lines_in part ts made.0.name d.name (nat_lt MOST (total cs)) (enabled_ways (table_component m) slots d.name cs MOST)) (does_as p (of_hosts h) runs).types
+                  ∙ ap (λ (x : Name). lines_in part h.types x d.name (nat_lt MOST (total cs)) (enabled_ways (table_component m) slots d.name cs MOST)) of_host.name
+                  ∙ ap (λ (x : Name). lines_in part h.types host.name x (nat_lt MOST (total cs)) (enabled_ways (table_component m) slots x cs MOST)) same.name
+                  ∙ ap (λ (t : Act → Bool). lines_in part h.types host.name e.name (nat_lt MOST (total cs)) (filter t (first_ways e.name cs MOST))) test
+                  ∙ sym (ap (λ b. cond b (lines_in part h.types host.name e.name (nat_lt MOST (total cs)) (enabled_ways (host_of host) state e.name cs MOST)) []) local),
             )
 
     not_host : (k : ℕ) (d : EntryCode) → slice_get host.instance.automaton.entries k ≡ None → slice_get m.entries k ≡ Some d → is_local (Some d.kind) ≡ false
@@ -142,13 +142,13 @@ module _ (p : Prog) (h : Hosted) (program : IsProgram p) (runs : Runs p h) (over
         let in_tree : slice_get (with_signals host.crash host.instance.automaton).entries k ≡ Some found.0 = ap (λ (es : List EntryTree). slice_get es k) (sym of_host.entries) ∙ found.1 in
         ap (λ x. is_local (Some x)) found.2.kind ∙ signal_not_local host.crash host.instance.automaton k found.0 none in_tree
 
-    member_told : member_lines p.types made.0 m slots (its_ways i) ≡ lines_of_host h.types host state
+    member_told : member_lines part p.types made.0 m slots (its_ways i) ≡ lines_of_host part h.types host state
     member_told =
         ap₂ (λ (x y : List ℕ). x ++ y)
-        (aligned host.instance.automaton.entries m.entries 0 (code_lines p.types made.0.name m slots (its_ways i)) (lines_of_entry h.types host state)
-        (λ k e here. let q = entry_told k e here in let zeroth : 0 + k ≡ k = omega arith in (q.0, q.1, ap (λ j. code_lines p.types made.0.name m slots (its_ways i) j q.0) zeroth ∙ q.2))
-        (λ k d none here. ap (λ b. cond b (offer_lines p.types made.0.name d.name (nat_lt MOST (total (its_ways i (0 + k)))) (enabled_ways (table_component m) slots d.name (its_ways i (0 + k)) MOST)) []) (not_host k d none here)))
-        (ap (λ (x : Name). flat_map (input_lines x) made.0.instance.automaton.entries) of_host.name ∙ ap (flat_map (input_lines host.name)) of_host.entries)
+        (aligned host.instance.automaton.entries m.entries 0 (code_lines part p.types made.0.name m slots (its_ways i)) (lines_of_entry part h.types host state)
+        (λ k e here. let q = entry_told k e here in let zeroth : 0 + k ≡ k = omega arith in (q.0, q.1, ap (λ j. code_lines part p.types made.0.name m slots (its_ways i) j q.0) zeroth ∙ q.2))
+        (λ k d none here. ap (λ b. cond b (lines_in part p.types made.0.name d.name (nat_lt MOST (total (its_ways i (0 + k)))) (enabled_ways (table_component m) slots d.name (its_ways i (0 + k)) MOST)) []) (not_host k d none here)))
+        (ap (λ (x : Name). inputs_in part x made.0.instance.automaton.entries) of_host.name ∙ ap (inputs_in part host.name) of_host.entries)
 
     have_ways : HaveWays m slots (its_ways i)
     have_ways k d here local = go (slice_get host.instance.automaton.entries k) refl
@@ -203,10 +203,10 @@ module _ (p : Prog) (h : Hosted) (program : IsProgram p) (runs : Runs p h) (over
   -- the lines of the components from this one on
   told_from : (n : ℕ) (ps : List Host) (xs : List (HostState Env)) (uss : List (List Val)) → ((k : ℕ) → slice_get h.hosts (n + k) ≡ slice_get ps k)
       → ((k : ℕ) → slice_get hs (n + k) ≡ slice_get xs k) → AllRelated (HoldsTyped h.hosts p.members) n xs uss
-      → numbered (lines_at p.types runs.0.members p.members its_ways) n uss ≡ enabled_lines h.types ps xs
+      → numbered (lines_at part p.types runs.0.members p.members its_ways) n uss ≡ part_lines part h.types ps xs
   told_from n ps [] [] hosts states r = sym (nothing ps)
     where
-      nothing : (qs : List Host) → enabled_lines h.types qs [] ≡ []
+      nothing : (qs : List Host) → part_lines part h.types qs [] ≡ []
       nothing [] = refl
       nothing (q ∷ qs) = refl
   told_from n ps [] (u ∷ us) hosts states r = absurd r
@@ -221,24 +221,24 @@ module _ (p : Prog) (h : Hosted) (program : IsProgram p) (runs : Runs p h) (over
       let own : both.0 ≡ y = some_same (slice_get h.hosts n) both.0 y both.2 (ap (slice_get h.hosts) here ∙ hosts 0) in
       let now : slice_get hs n ≡ Some x = ap (slice_get hs) here ∙ states 0 in
       let cm = made n both.0 both.1 x u both.2 both.3 now r.0 in
-      let first : lines_at p.types runs.0.members p.members its_ways n u ≡ lines_of_host h.types y x =
-      ap (λ o. lines_of p.types o (slice_get p.members n) u (its_ways n)) cm.1 ∙ ap (λ o. lines_of p.types (Some cm.0) o u (its_ways n)) both.3
-      ∙ member_told n both.0 both.1 x u both.2 both.3 now r.0 ∙ ap (λ z. lines_of_host h.types z x) own in
+      let first : lines_at part p.types runs.0.members p.members its_ways n u ≡ lines_of_host part h.types y x =
+      ap (λ o. lines_of part p.types o (slice_get p.members n) u (its_ways n)) cm.1 ∙ ap (λ o. lines_of part p.types (Some cm.0) o u (its_ways n)) both.3
+      ∙ member_told n both.0 both.1 x u both.2 both.3 now r.0 ∙ ap (λ z. lines_of_host part h.types z x) own in
       ap₂ (λ (a b : List ℕ). a ++ b) first
       (told_from (n + 1) ps xs us (λ k. let next : n + 1 + k ≡ n + suc k = omega arith in ap (slice_get h.hosts) next ∙ hosts (suc k))
       (λ k. let next : n + 1 + k ≡ n + suc k = omega arith in ap (slice_get hs) next ∙ states (suc k)) r.1)
 
-  pub all_told : numbered (lines_at p.types runs.0.members p.members its_ways) 0 vss ≡ enabled_lines h.types h.hosts hs
+  pub all_told : numbered (lines_at part p.types runs.0.members p.members its_ways) 0 vss ≡ part_lines part h.types h.hosts hs
   all_told =
       told_from 0 h.hosts hs vss (λ k. let here : 0 + k ≡ k = omega arith in ap (slice_get h.hosts) here) (λ k. let here : 0 + k ≡ k = omega arith in ap (slice_get hs) here) held
 
 -- the lines of a program's components are those of its hosts
-pub lines_told : {X E : Type 0} (r : Result X E) (p : Prog) (c : Composed) (vss : List (List Val)) (old new : List ℕ) → IsProgram p
-    → OnOk r ((w : ℕ → ℕ → List Values) → AreOfMembers p.members vss → AllHaveWays p.members vss w → new ≡ old ++ numbered (lines_at p.types c.members p.members w) 0 vss)
+pub lines_told : {X E : Type 0} (part : Part) (r : Result X E) (p : Prog) (c : Composed) (vss : List (List Val)) (old new : List ℕ) → IsProgram p
+    → OnOk r ((w : ℕ → ℕ → List Values) → AreOfMembers p.members vss → AllHaveWays p.members vss w → new ≡ old ++ numbered (lines_at part p.types c.members p.members w) 0 vss)
     → OnOk r ((h : Hosted) (hs : List (HostState Env)) → ShareTypes h → Simulates h c → Implements p c → AllRelated (HoldsTyped h.hosts p.members) 0 hs vss
-    → new ≡ old ++ enabled_lines h.types h.hosts hs)
-lines_told (Ok x) p c vss old new program said = λ h hs over simulates implements held.
+    → new ≡ old ++ part_lines part h.types h.hosts hs)
+lines_told part (Ok x) p c vss old new program said = λ h hs over simulates implements held.
     let runs : Runs p h = (c, simulates, implements) in
-    said (its_ways p h program runs over hs vss held) (all_typed p h program runs over hs vss held) (all_have p h program runs over hs vss held)
-    ∙ ap (λ (t : List ℕ). old ++ t) (all_told p h program runs over hs vss held)
-lines_told (Err e) p c vss old new program said = tt
+    said (its_ways part p h program runs over hs vss held) (all_typed part p h program runs over hs vss held) (all_have part p h program runs over hs vss held)
+    ∙ ap (λ (t : List ℕ). old ++ t) (all_told part p h program runs over hs vss held)
+lines_told part (Err e) p c vss old new program said = tt

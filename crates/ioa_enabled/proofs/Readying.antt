@@ -12,6 +12,7 @@ use Rattle.ioa_compile.specs.Tables.{AreMembers, IsMember, IsProgram}
 use Rattle.ioa_system.specs.Systems.{Slots, slot_types, slots_of}
 use Rattle.ioa_system.proofs.Participating.{taken_some}
 use Rattle.ioa_run.proofs.Wishing.{over_copy}
+use Rattle.ioa_enabled.specs.declared.part.Part.{Part}
 use Rattle.ioa_enabled.specs.Offers.{IsPlaced, IsReady}
 use Rattle.ioa_enabled.specs.Told.{lines_at, lines_of, member_lines}
 use Rattle.ioa_enabled.specs.Ways.{Values}
@@ -31,20 +32,20 @@ is_placed m n ready slots = record { sound = ready.sound; slots = slots; codes =
 
 -- ---- lines by the place of a component
 
-module _ (types : Table) (cs : List Member) (ms : List MemberCode) (w : ℕ → ℕ → List Values) (i : ℕ) (s : List Val) where
-  pub lines_there : (c : Member) (m : MemberCode) → slice_get cs i ≡ Some c → slice_get ms i ≡ Some m → lines_at types cs ms w i s ≡ member_lines types c m s (w i)
-  lines_there c m at there = ap (λ o. lines_of types o (slice_get ms i) s (w i)) at ∙ ap (λ o. lines_of types (Some c) o s (w i)) there
+module _ (part : Part) (types : Table) (cs : List Member) (ms : List MemberCode) (w : ℕ → ℕ → List Values) (i : ℕ) (s : List Val) where
+  pub lines_there : (c : Member) (m : MemberCode) → slice_get cs i ≡ Some c → slice_get ms i ≡ Some m → lines_at part types cs ms w i s ≡ member_lines part types c m s (w i)
+  lines_there c m at there = ap (λ o. lines_of part types o (slice_get ms i) s (w i)) at ∙ ap (λ o. lines_of part types (Some c) o s (w i)) there
 
-  no_member : (o : Option MemberCode) → lines_of types None o s (w i) ≡ []
+  no_member : (o : Option MemberCode) → lines_of part types None o s (w i) ≡ []
   no_member None = refl
   no_member (Some m) = refl
 
-  no_code : (o : Option Member) → lines_of types o None s (w i) ≡ []
+  no_code : (o : Option Member) → lines_of part types o None s (w i) ≡ []
   no_code None = refl
   no_code (Some c) = refl
 
-  pub past_members : length cs ≤ i → lines_at types cs ms w i s ≡ []
-  past_members past = ap (λ o. lines_of types o (slice_get ms i) s (w i)) (slice_get_past cs i past) ∙ no_member (slice_get ms i)
+  pub past_members : length cs ≤ i → lines_at part types cs ms w i s ≡ []
+  past_members past = ap (λ o. lines_of part types o (slice_get ms i) s (w i)) (slice_get_past cs i past) ∙ no_member (slice_get ms i)
 
-  pub past_codes : length ms ≤ i → lines_at types cs ms w i s ≡ []
-  past_codes past = ap (λ o. lines_of types (slice_get cs i) o s (w i)) (slice_get_past ms i past) ∙ no_code (slice_get cs i)
+  pub past_codes : length ms ≤ i → lines_at part types cs ms w i s ≡ []
+  past_codes past = ap (λ o. lines_of part types (slice_get cs i) o s (w i)) (slice_get_past ms i past) ∙ no_code (slice_get cs i)

@@ -68,7 +68,7 @@ module _ (test : Act → Bool) (x : Name) (cs : List Values) where
   abbrev pub tried : ℕ → List Act
   tried n = filter test (map (way x cs) (range_with_len 0 n))
 
-  next_one : (n : ℕ) → tried (n + 1) ≡ tried n ++ filter test (way x cs n ∷ [])
+  pub next_one : (n : ℕ) → tried (n + 1) ≡ tried n ++ filter test (way x cs n ∷ [])
   next_one n =
       let here : 0 + n ≡ n = omega arith in
       ap (filter test) (map-range_with_len_more (way x cs) 0 n n here) ∙ filter-append test (map (way x cs) (range_with_len 0 n)) (way x cs n ∷ [])

@@ -6,3 +6,5 @@ pub mod Hosted
 pub mod Placed
 pub mod Signed
 pub mod Told
+pub mod Next
+pub mod Silent

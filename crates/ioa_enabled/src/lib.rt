@@ -12,6 +12,8 @@ mod guards;
 mod offers;
 
 // Lines of text.
+mod next;
+mod part;
 mod placing;
 mod signatures;
 mod telling;
@@ -19,6 +21,7 @@ mod telling;
 // Laws.
 mod laws;
 
-pub use laws::{offers_are_the_hosts, ways_are_proposals};
+pub use laws::{nothing_more_is_proposed, offers_are_the_hosts, ways_are_proposals};
+pub use next::put_next;
 pub use offers::{Offer, offer_of};
 pub use telling::{MOST, put_enabled};

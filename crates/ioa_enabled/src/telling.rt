@@ -6,6 +6,7 @@ ghost use Rattle.ioa_value.specs.Actions.{act_of};
 ghost use Rattle.ioa_tree.specs.Hosts.{HostState, Hosted};
 ghost use Rattle.ioa_tree.specs.Likes.{AllRelated};
 ghost use Rattle.ioa_tree.specs.Meaning.{Env};
+ghost use Rattle.ioa_tree.specs.View.{entry_of};
 ghost use Rattle.ioa_compose.specs.Held.{composed_of, member_of};
 ghost use Rattle.ioa_compose.specs.Simulates.{Simulates};
 ghost use Rattle.ioa_compile.specs.Implements.{Implements};
@@ -25,6 +26,7 @@ ghost use Rattle.ioa_enabled.specs.Sampled.{HasWays};
 ghost use Rattle.ioa_enabled.specs.Ways.{Values, enabled_ways, total};
 
 use crate::offers::{Offer, offer_of};
+use crate::part::Part;
 use crate::placing::placed;
 use crate::signatures::put_inputs;
 use ioa_compile::{Entry, Member, Program};
@@ -53,15 +55,34 @@ pub fn put_enabled(
         → AllRelated (HoldsTyped h.hosts program.now.members) 0 hs (values_of states.now)
         → string_bytes text.new ≡ string_bytes text.old ++ spec.enabled_lines h.types h.hosts hs) }
 {
+    put_part(alloc, Part::All, text, composition, program, states)
+}
+
+/// Puts this part of it.
+///
+/// The program is the composition's.
+pub(crate) fn put_part(
+    alloc: Global,
+    part: Part,
+    text: &mut String,
+    composition: &Composition,
+    program: &Program,
+    states: &[NodeState],
+) -> Result<(), OutOfMemory>
+    ensures { OnOk result ((h : Hosted) (hs : List (HostState Env)) → ShareTypes h → Simulates h (composed_of composition.now) → Implements program.now (composed_of composition.now)
+        → AllRelated (HoldsTyped h.hosts program.now.members) 0 hs (values_of states.now)
+        → string_bytes text.new ≡ string_bytes text.old ++ spec.part_lines part h.types h.hosts hs) }
+{
     let types = program.types();
     let members = composition.members();
     let codes = program.members();
-    put_all(alloc, text, types, members, codes, states)
+    put_all(alloc, part, text, types, members, codes, states)
 }
 
 /// The same, said of the program's table.
 fn put_all(
     alloc: Global,
+    part: Part,
     text: &mut String,
     types: &Types,
     members: &[ioa_compose::Member],
@@ -70,7 +91,7 @@ fn put_all(
 ) -> Result<(), OutOfMemory>
     requires { (i : ℕ) (m : MemberCode) → slice_get (map member_code codes.now) i ≡ Some m → IsReady m }
     ensures { OnOk result ((w : ℕ → ℕ → List Values) → AreOfMembers (map member_code codes.now) (values_of states.now) → AllHaveWays (map member_code codes.now) (values_of states.now) w
-        → string_bytes text.new ≡ string_bytes text.old ++ numbered (spec.lines_at types.now (map member_of members.now) (map member_code codes.now) w) 0 (values_of states.now)) }
+        → string_bytes text.new ≡ string_bytes text.old ++ numbered (spec.lines_at part types.now (map member_of members.now) (map member_code codes.now) w) 0 (values_of states.now)) }
 {
     let mut workspace = Workspace::new(alloc);
     for i in 0..states.len() {
@@ -78,6 +99,7 @@ fn put_all(
             put_state(
                 alloc,
                 &mut workspace,
+                part,
                 text,
                 types,
                 &members[i],
@@ -93,6 +115,7 @@ fn put_all(
 fn put_state(
     alloc: Global,
     workspace: &mut Workspace,
+    part: Part,
     text: &mut String,
     types: &Types,
     member: &ioa_compose::Member,
@@ -101,10 +124,10 @@ fn put_state(
 ) -> Result<(), OutOfMemory>
     requires { IsReady (member_code code.now) }
     ensures { OnOk result ((w : ℕ → List Values) → AreOfMember (member_code code.now) state.now.values → HaveWays (member_code code.now) state.now.values w
-        → string_bytes text.new ≡ string_bytes text.old ++ spec.member_lines types.now (member_of member.now) (member_code code.now) state.now.values w) }
+        → string_bytes text.new ≡ string_bytes text.old ++ spec.member_lines part types.now (member_of member.now) (member_code code.now) state.now.values w) }
 {
     match placed(alloc, code, state.values())? {
-        Some(state) => put_member(alloc, workspace, text, types, member, code, &state),
+        Some(state) => put_member(alloc, workspace, part, text, types, member, code, &state),
         None => Ok(()),
     }
 }
@@ -113,6 +136,7 @@ fn put_state(
 fn put_member(
     alloc: Global,
     workspace: &mut Workspace,
+    part: Part,
     text: &mut String,
     types: &Types,
     member: &ioa_compose::Member,
@@ -121,17 +145,33 @@ fn put_member(
 ) -> Result<(), OutOfMemory>
     requires { IsPlaced (member_code code.now) state.now }
     ensures { OnOk result ((w : ℕ → List Values) → HaveWays (member_code code.now) state.now.values w
-        → string_bytes text.new ≡ string_bytes text.old ++ spec.member_lines types.now (member_of member.now) (member_code code.now) state.now.values w) }
+        → string_bytes text.new ≡ string_bytes text.old ++ spec.member_lines part types.now (member_of member.now) (member_code code.now) state.now.values w) }
 {
     let name = member.name.as_str();
-    put_entries(alloc, workspace, text, types, name, code, state)?;
-    put_inputs(text, name, &member.automaton.entries)
+    put_entries(alloc, workspace, part, text, types, name, code, state)?;
+    put_inputs_in(part, text, name, &member.automaton.entries)
+}
+
+/// Its inputs, where these are told.
+fn put_inputs_in(
+    part: Part,
+    text: &mut String,
+    component: &str,
+    entries: &[ioa_tree::Entry],
+) -> Result<(), OutOfMemory>
+    ensures { OnOk result (string_bytes text.new ≡ string_bytes text.old ++ spec.inputs_in part component.now (map entry_of entries.now)) }
+{
+    match part {
+        Part::All => put_inputs(text, component, entries),
+        Part::Own | Part::Enabled => Ok(()),
+    }
 }
 
 /// The actions of a component of this name that are enabled.
 fn put_entries(
     alloc: Global,
     workspace: &mut Workspace,
+    part: Part,
     text: &mut String,
     types: &Types,
     name: &str,
@@ -140,12 +180,14 @@ fn put_entries(
 ) -> Result<(), OutOfMemory>
     requires { IsPlaced (member_code code.now) state.now }
     ensures { OnOk result ((w : ℕ → List Values) → HaveWays (member_code code.now) state.now.values w
-        → string_bytes text.new ≡ string_bytes text.old ++ numbered (spec.code_lines types.now name.now (member_code code.now) state.now.values w) 0 (member_code code.now).entries) }
+        → string_bytes text.new ≡ string_bytes text.old ++ numbered (spec.code_lines part types.now name.now (member_code code.now) state.now.values w) 0 (member_code code.now).entries) }
 {
     for k in 0..code.entries.len() {
         let entry = &code.entries[k];
         if entry.kind.is_local() {
-            put_entry(alloc, workspace, text, types, name, code, entry, state)?;
+            put_entry(
+                alloc, workspace, part, text, types, name, code, entry, state,
+            )?;
         }
     }
     Ok(())
@@ -155,6 +197,7 @@ fn put_entries(
 fn put_entry(
     alloc: Global,
     workspace: &mut Workspace,
+    part: Part,
     text: &mut String,
     types: &Types,
     name: &str,
@@ -165,14 +208,30 @@ fn put_entry(
     requires ready { IsPlaced (member_code code.now) state.now }
     requires proposes { IfSome (entry_code entry.now).propose (IsOfState state.now) }
     ensures { OnOk result ((cs : List Values) → HasWays (entry_code entry.now) state.now.values cs
-        → string_bytes text.new ≡ string_bytes text.old ++ spec.offer_lines types.now name.now (entry_code entry.now).name (nat_lt most (total cs)) (enabled_ways (table_component (member_code code.now)) state.now.values (entry_code entry.now).name cs most)) }
+        → string_bytes text.new ≡ string_bytes text.old ++ spec.lines_in part types.now name.now (entry_code entry.now).name (nat_lt most (total cs)) (enabled_ways (table_component (member_code code.now)) state.now.values (entry_code entry.now).name cs most)) }
 {
     let offer = offer_of(alloc, workspace, code, entry, state, MOST)?;
-    put_offer(text, types, name, entry.name.as_str(), &offer)
+    put_offer(part, text, types, name, entry.name.as_str(), &offer)
 }
 
-/// What is told of an entry.
+/// What is told of an entry, where the part has it.
 fn put_offer(
+    part: Part,
+    text: &mut String,
+    types: &Types,
+    component: &str,
+    entry: &str,
+    offer: &Offer,
+) -> Result<(), OutOfMemory>
+    ensures { OnOk result (string_bytes text.new ≡ string_bytes text.old ++ spec.lines_in part types.now component.now entry.now offer.now.more (map act_of offer.now.enabled.items)) }
+{
+    if part.tells(offer.enabled.is_empty()) {
+        return put_lines(text, types, component, entry, offer);
+    }
+    Ok(())
+}
+
+fn put_lines(
     text: &mut String,
     types: &Types,
     component: &str,

@@ -7,7 +7,8 @@ use Rattle.ioa_value.specs.Actions.{Act, Name}
 use Rattle.ioa_value.specs.Lists.{BadLine, ReadsList}
 use Rattle.ioa_value.specs.Table.{Table}
 use Rattle.ioa_lex.specs.declared.refusal.Refusal.{Refusal}
-use Rattle.ioa_tree.specs.Hosts.{Hosted}
+use Rattle.ioa_tree.specs.Hosts.{Hosted, hosts_of, host_starts}
+use Rattle.ioa_tree.specs.Runs.{run}
 use Rattle.ioa_compose.specs.declared.composition.Composition.{Composition}
 use Rattle.ioa_compose.specs.Held.{composed_of}
 use Rattle.ioa_compose.specs.Simulates.{Simulates}
@@ -17,6 +18,8 @@ use Rattle.ioa_object.specs.declared.failure.ObjErr.{ObjErr}
 use Rattle.ioa_system.specs.Logs.{Logged, actions_of, logged}
 use Rattle.ioa_log.specs.Begun.{IsBegun, IsUnbegun}
 use Rattle.ioa_log.specs.LogTexts.{GoesOnAt, HasNoEnd, NoEntryAt, NotJsonAt, ReadsLog, log_text}
+use Rattle.ioa_enabled.specs.Next.{next_lines}
+use Rattle.ioa_enabled.specs.Told.{ShareTypes}
 use Rattle.ioa_account.specs.declared.remarks.Told.{Told}
 use Rattle.ioa_account.specs.Objects.{TellsObject}
 use Rattle.ioa_account.specs.Lines.{line_at}
@@ -121,14 +124,22 @@ TellsCounted t acts before after =
 abbrev pub TellsLogEnd : Told → List ℕ → List ℕ → Type 0
 TellsLogEnd t before after = OfLog t (λ log. TellsEnd t (log_line t) (actions_of log)) before after
 
--- of a run that is done which of their actions the components never performed; behind that stand words for people
-abbrev pub TellsIdle : Told → Logged → List ℕ → List ℕ → Type 0
-TellsIdle t log before after = (rest : List ℕ) × (after ≡ before ++ (idle_text log.entries 0 t.composition.now.members ++ rest))
+-- which of their own actions the hosts may perform next in the states that their run over these actions reaches, or that they perform none
+abbrev pub reached_text : Hosted → List Act → List ℕ
+reached_text h acts = next_lines h.types h.hosts (run (hosts_of h) acts (host_starts h)).states
+
+abbrev pub TellsReached : Told → List Act → List ℕ → List ℕ → Type 0
+TellsReached t acts before after = OfHosts t (λ h old new. ShareTypes h → new ≡ old ++ reached_text h acts) before after
+
+-- of a run that is done which of their actions the components never performed, and what they may perform next; behind that stand words for people
+abbrev pub TellsDone : Told → Logged → List ℕ → List ℕ → Type 0
+TellsDone t log before after =
+    (told : List ℕ) × (rest : List ℕ) × TellsReached t (actions_of log) (before ++ idle_text log.entries 0 t.composition.now.members) told × (after ≡ told ++ rest)
 
 -- of a run that a fault ended the same as of its log
 abbrev pub TellsRunEnd : Status → Told → List ℕ → List ℕ → Type 0
 TellsRunEnd Status.Faulted t before after = TellsLogEnd t before after
-TellsRunEnd Status.Done t before after = OfLog t (TellsIdle t) before after
+TellsRunEnd Status.Done t before after = OfLog t (TellsDone t) before after
 TellsRunEnd Status.NotAccepted t before after = after ≡ before
 TellsRunEnd Status.Refused t before after = after ≡ before
 TellsRunEnd Status.BadCommandLine t before after = after ≡ before

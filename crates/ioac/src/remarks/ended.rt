@@ -9,11 +9,12 @@ ghost use Rattle.ioa_log.specs.LogTexts.{ReadsLog};
 ghost use Rattle.ioa_account.specs.Remarks.{TellsDifference, TellsInspected};
 ghost use Rattle.ioa_serving.specs.Logs.{performed_in};
 ghost use Rattle.ioac.specs.Remarks as spec;
-ghost use Rattle.ioac.specs.Remarks.{IsComposed, IsLoaded, IsNoLog, OfBegun, OfHosts, OfLog, Explains, TellsCounted, TellsEnded, TellsIdle, TellsListEnd, TellsListed, TellsLogEnd, TellsRunEnd, TellsSource};
+ghost use Rattle.ioac.specs.Remarks.{IsComposed, IsLoaded, IsNoLog, OfBegun, OfHosts, OfLog, Explains, TellsCounted, TellsDone, TellsEnded, TellsListEnd, TellsListed, TellsLogEnd, TellsRunEnd, TellsSource};
 
 use crate::remarks::hints::taken_text;
-use crate::remarks::idle::put_idle_and;
+use crate::remarks::idle::put_idle;
 use crate::remarks::places::source_of;
+use crate::remarks::reached::put_reached;
 use crate::remarks::{hints, nameless};
 use ioa_account::{
     Told, actions_in, put_difference, put_inspected, put_list_end, put_log_end, put_monitored,
@@ -206,7 +207,7 @@ fn put_end_of_log(alloc: Global, text: &mut String, told: &Told<'_>) -> Result<(
     }
 }
 
-/// Puts the action at which a fault ended a run, and which fault it is, the same as of its log; or of a run that is done what was never performed.
+/// Puts the action at which a fault ended a run, and which fault it is, the same as of its log; or of a run that is done what was never performed, and what may be next.
 fn put_end_of_run(
     alloc: Global,
     text: &mut String,
@@ -226,17 +227,18 @@ fn put_end_of_run(
     }
 }
 
-/// Puts which actions of its components a run that is done never performed, and which composition was taken, where none was named.
+/// Puts which actions of its components a run that is done never performed, which are enabled in the states that it reached, and which composition was taken, where
+/// none was named.
 fn put_done_run(
     alloc: Global,
     text: &mut String,
     told: &Told<'_>,
     name: Option<&str>,
 ) -> Result<(), OutOfMemory>
-    ensures { OnOk result (OfLog told.now (TellsIdle told.now) (string_bytes text.old) (string_bytes text.new)) }
+    ensures { OnOk result (OfLog told.now (TellsDone told.now) (string_bytes text.old) (string_bytes text.new)) }
 {
     match heard_log(alloc, told.composition.types(), told.input)? {
-        Some(log) => put_performed(alloc, text, told, name, &log),
+        Some(log) => put_performed(alloc, text, told, name, log),
         None => Ok(()),
     }
 }
@@ -246,17 +248,16 @@ fn put_performed(
     text: &mut String,
     told: &Told<'_>,
     name: Option<&str>,
-    log: &Log,
+    log: Log,
 ) -> Result<(), OutOfMemory>
-    ensures { OnOk result (TellsIdle told.now (logged log.now) (string_bytes text.old) (string_bytes text.new)) }
+    ensures { OnOk result (TellsDone told.now (logged log) (string_bytes text.old) (string_bytes text.new)) }
 {
     let taken = taken_text(alloc, told.composition, told.source, name)?;
-    put_idle_and(
-        text,
-        told.composition.members(),
-        &log.entries,
-        taken.as_str(),
-    )
+    put_idle(text, told.composition.members(), &log.entries)?;
+    let actions = actions_in(alloc, log.entries)?;
+    put_reached(alloc, text, told, &actions)?;
+    text.push_str(taken.as_str())?;
+    Ok(())
 }
 
 /// Puts why a log is not of the composition's run, by the run of its actions up to this line, and by its end, where this comes next: no more of

@@ -12,21 +12,8 @@ use ioa_tree::Entry;
 use ioa_value::OutOfMemory;
 use std::fmt::Write;
 
-/// Puts each output and internal action of a component that none of the log's entries is, on a line each, and a text behind them.
-pub fn put_idle_and(
-    text: &mut String,
-    members: &[Member],
-    log: &[LogEntry],
-    rest: &str,
-) -> Result<(), OutOfMemory>
-    ensures { OnOk result (string_bytes text.new ≡ string_bytes text.old ++ (spec.idle_text (map log_entry log.now) 0 members.now ++ rest.now)) }
-{
-    put_idle(text, members, log)?;
-    text.push_str(rest)?;
-    Ok(())
-}
-
-fn put_idle(text: &mut String, members: &[Member], log: &[LogEntry]) -> Result<(), OutOfMemory>
+/// Puts each output and internal action of a component that none of the log's entries is, on a line each.
+pub fn put_idle(text: &mut String, members: &[Member], log: &[LogEntry]) -> Result<(), OutOfMemory>
     ensures { OnOk result (string_bytes text.new ≡ string_bytes text.old ++ spec.idle_text (map log_entry log.now) 0 members.now) }
 {
     let mut who = 0;

@@ -158,10 +158,10 @@ run --alone --turns abc f |  |  |  |  | a whole number from 0 to 100000
 run --alone --seed 9 f |  |  |  |  | 64 hexadecimal digits
 check g |  |  |  | g was not read | there is none
 -- runs in which some actions are never performed, or in which another composition than the first is taken
-run --alone --turns 20 --reports f | any(3) | any(0) |  | no `rest` of A was performed^ | `rest`
-run --alone --turns 20 --reports f | propose k := c^ | propose k := c + 1^ |  | no `tick` of A was performed^no `rest` of A was performed^ | `tick`
-run --alone --turns 20 f | c < 9 | c < 0 |  | no `tick` of A was performed^no `rest` of A was performed^ | `tick`
-run --alone --turns 5 f | W: Watch^ | W: Watch^composition Spec components W: Watch^ |  | no composition was named | `Spec` was taken ^ the last of 2
+run --alone --turns 20 --reports f | any(3) | any(0) |  | no `rest` of A was performed^ | `rest` ^ these are enabled ^ A: tick(
+run --alone --turns 20 --reports f | propose k := c^ | propose k := c + 1^ |  | no `tick` of A was performed^no `rest` of A was performed^ | `tick` ^ nothing more happens without an input
+run --alone --turns 20 f | c < 9 | c < 0 |  | no `tick` of A was performed^no `rest` of A was performed^ | `tick` ^ nothing more happens without an input
+run --alone --turns 5 f | W: Watch^ | W: Watch^composition Spec components W: Watch^ |  | none is enabled | nothing more happens without an input ^ no composition was named ^ `Spec` was taken ^ the last of 2
 "#;
 
 /// The lines of a column.

@@ -26,7 +26,7 @@ loop-i-preserved c = λ w typed have.
     let cs : List Member = map member_of c.args.members.now in
     let ms : List MemberCode = map member_code c.args.codes.now in
     let vss : List (List Val) = values_of c.args.states.now in
-    let lines = lines_at types cs ms w in
+    let lines = lines_at c.args.part types cs ms w in
     let i = c.loop-i.i in
     let old = string_bytes c.args.text.now in
     let so_far = string_bytes c.loop-i.text in
@@ -40,7 +40,7 @@ loop-i-preserved c = λ w typed have.
           let now : slice_get vss i ≡ Some s = at_map (λ (n : Node). n.values) c.args.states.now i x.index-states-i.result c.loop-i-test.true x.index-states-i.is in
           let more : string_bytes c.if-i-members.text ≡ so_far ++ lines i s =
           ap (λ (t : String Global). string_bytes t) x.text-is ∙ x.in_ok-put_state.ensures (w i) (typed i m s there now) (have i m s there now)
-          ∙ ap (λ (l : List ℕ). so_far ++ l) (sym (lines_there types cs ms w i s a m at there)) in
+          ∙ ap (λ (l : List ℕ). so_far ++ l) (sym (lines_there c.args.part types cs ms w i s a m at there)) in
           line_more lines (λ (n : Node). n.values) c.args.states.now i x.index-states-i.result old so_far (string_bytes c.if-i-members.text) c.loop-i-test.true x.index-states-i.is
           (c.loop-i.invariant w typed have) more
       | else-i-members x ↦
@@ -50,8 +50,8 @@ loop-i-preserved c = λ w typed have.
           let state = item_there vss i (omega (arith, long, c.loop-i-test.true)) in
           let none : lines i state.0 ≡ [] =
           elim x.else-i-members.branch [
-            | else-i-members-via-then-i-members+else-i-codes y ↦ past_codes types cs ms w i state.0 (omega (arith, codes, y.if-i-codes.false))
-            | else-i-members-via-else-i-members y ↦ past_members types cs ms w i state.0 (omega (arith, members, y.if-i-members.false))
+            | else-i-members-via-then-i-members+else-i-codes y ↦ past_codes c.args.part types cs ms w i state.0 (omega (arith, codes, y.if-i-codes.false))
+            | else-i-members-via-else-i-members y ↦ past_members c.args.part types cs ms w i state.0 (omega (arith, members, y.if-i-members.false))
           ] in
           let more : string_bytes c.if-i-members.text ≡ so_far ++ lines i state.0 =
           ap (λ (t : String Global). string_bytes t) x.text-is ∙ sym (append-nil so_far) ∙ ap (λ (l : List ℕ). so_far ++ l) (sym none) in

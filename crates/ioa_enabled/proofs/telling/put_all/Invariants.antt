@@ -12,4 +12,4 @@ use Rattle.ioa_enabled.proofs.telling.put_all.Given as goal
 abbrev pub invariant-loop-i : goal.invariant-loop-i
 invariant-loop-i l =
     (w : ℕ → ℕ → List Values) → AreOfMembers (map member_code l.codes) (values_of l.states) → AllHaveWays (map member_code l.codes) (values_of l.states) w
-    → string_bytes l.text ≡ string_bytes l.fn.text ++ numbered (lines_at l.types (map member_of l.members) (map member_code l.codes) w) 0 (take l.i (values_of l.states))
+    → string_bytes l.text ≡ string_bytes l.fn.text ++ numbered (lines_at l.part l.types (map member_of l.members) (map member_code l.codes) w) 0 (take l.i (values_of l.states))

@@ -11,7 +11,7 @@ use Rattle.ioa_compile.specs.Tables.{table_component}
 use Rattle.ioa_picture.proofs.Numbered.{line_more}
 use Rattle.ioa_run.specs.Choices.{IsOfState}
 use Rattle.ioa_enabled.specs.declared.telling.TheConstants.{MOST}
-use Rattle.ioa_enabled.specs.Told.{code_lines, offer_lines}
+use Rattle.ioa_enabled.specs.Told.{code_lines, lines_in}
 use Rattle.ioa_enabled.specs.Ways.{enabled_ways, total}
 use Rattle.ioa_enabled.proofs.Gathering.{all_there}
 use Rattle.ioa_enabled.proofs.telling.put_entries.Goals as goal
@@ -37,8 +37,8 @@ loop-k-preserved c = λ w have.
     let there : slice_get m.entries k ≡ Some d = at_map entry_code entries.items k c.index-entry.result.now less c.index-entry.ensures in
     let old = string_bytes c.args.text.now in
     let so_far = string_bytes c.loop-k.text in
-    let lines = code_lines c.args.types.now c.args.name.now m s w in
-    let all = offer_lines c.args.types.now c.args.name.now d.name (nat_lt MOST (total (w k))) (enabled_ways (table_component m) s d.name (w k) MOST) in
+    let lines = code_lines c.args.part c.args.types.now c.args.name.now m s w in
+    let all = lines_in c.args.part c.args.types.now c.args.name.now d.name (nat_lt MOST (total (w k))) (enabled_ways (table_component m) s d.name (w k) MOST) in
     elim c.if-is_local.branch [
       | then-is_local+in_ok-put_entry x ↦
           let local : is_local (Some d.kind) ≡ true = sym c.is_local.ensures ∙ x.if-is_local.true in

@@ -9,4 +9,4 @@ use Rattle.ioa_enabled.proofs.telling.put_entries.Given as goal
 abbrev pub invariant-loop-k : goal.invariant-loop-k
 invariant-loop-k l =
     (w : ℕ → List Values) → HaveWays (member_code l.code) l.state.values w
-    → string_bytes l.text ≡ string_bytes l.fn.text ++ numbered (code_lines l.types l.name (member_code l.code) l.state.values w) 0 (take l.k (map entry_code l.code.entries.items))
+    → string_bytes l.text ≡ string_bytes l.fn.text ++ numbered (code_lines l.part l.types l.name (member_code l.code) l.state.values w) 0 (take l.k (map entry_code l.code.entries.items))

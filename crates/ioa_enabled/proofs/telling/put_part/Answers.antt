@@ -12,7 +12,7 @@ use Rattle.ioa_enabled.specs.Told.{AllHaveWays, lines_at}
 use Rattle.ioa_enabled.specs.Ways.{Values}
 use Rattle.ioa_enabled.proofs.Lining.{lines_told}
 use Rattle.ioa_enabled.proofs.Readying.{ready_at}
-use Rattle.ioa_enabled.proofs.telling.put_enabled.Goals as goal
+use Rattle.ioa_enabled.proofs.telling.put_part.Goals as goal
 
 pub put_all-requires : goal.put_all-requires
 put_all-requires c = λ i m there.
@@ -28,14 +28,14 @@ returns c =
     let named =
     subst
     (λ ns. OnOk c.put_all.result ((w : ℕ → ℕ → List Values) → AreOfMembers (map member_code c.members-codes.result.now) vss → AllHaveWays (map member_code c.members-codes.result.now) vss w
-    → new ≡ old ++ numbered (lines_at c.types-types.result.now (map member_of ns) (map member_code c.members-codes.result.now) w) 0 vss))
+    → new ≡ old ++ numbered (lines_at c.args.part c.types-types.result.now (map member_of ns) (map member_code c.members-codes.result.now) w) 0 vss))
     c.members-members.ensures.value c.put_all.ensures in
     let typed =
     subst
     (λ ts. OnOk c.put_all.result ((w : ℕ → ℕ → List Values) → AreOfMembers (map member_code c.members-codes.result.now) vss → AllHaveWays (map member_code c.members-codes.result.now) vss w
-    → new ≡ old ++ numbered (lines_at ts composed.members (map member_code c.members-codes.result.now) w) 0 vss))
+    → new ≡ old ++ numbered (lines_at c.args.part ts composed.members (map member_code c.members-codes.result.now) w) 0 vss))
     c.types-types.ensures.value named in
-    lines_told c.put_all.result p composed vss old new c.members-codes.ensures.sound
+    lines_told c.args.part c.put_all.result p composed vss old new c.members-codes.ensures.sound
     (subst
-    (λ ms. OnOk c.put_all.result ((w : ℕ → ℕ → List Values) → AreOfMembers ms vss → AllHaveWays ms vss w → new ≡ old ++ numbered (lines_at p.types composed.members ms w) 0 vss))
+    (λ ms. OnOk c.put_all.result ((w : ℕ → ℕ → List Values) → AreOfMembers ms vss → AllHaveWays ms vss w → new ≡ old ++ numbered (lines_at c.args.part p.types composed.members ms w) 0 vss))
     c.members-codes.ensures.value typed)

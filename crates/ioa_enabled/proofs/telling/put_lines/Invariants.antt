@@ -2,7 +2,7 @@ use Rattle.std.proofs.Common.{◌≡◌, ◌++◌, map, string_bytes, take}
 use Rattle.std.specs.List.{flat_map}
 use Rattle.ioa_value.specs.Actions.{act_of}
 use Rattle.ioa_enabled.specs.Told.{action_line}
-use Rattle.ioa_enabled.proofs.telling.put_offer.Given as goal
+use Rattle.ioa_enabled.proofs.telling.put_lines.Given as goal
 
 -- the lines of the actions so far
 abbrev pub invariant-loop-action : goal.invariant-loop-action
