@@ -82,6 +82,7 @@ unprinted counts.list replay counter.ioa
 unprinted counts.list replay counter
 unprinted counts.list replay counter.ioa --states
 unprinted counts.list replay counter.ioa --enabled
+unprinted counts.list replay counter.ioa --json
 unprinted too_soon.list replay counter.ioa --explain
 unprinted long.log replay counter.ioa --log
 unprinted delivered.list replay ordered.ioa --comp Link --log

@@ -17,7 +17,7 @@ use Rattle.ioa_request.specs.declared.settings.Settings.{Settings}
 use Rattle.ioa_request.specs.declared.shown.Shown.{Shown}
 use Rattle.ioa_request.specs.declared.topic.Topic.{Topic}
 use Rattle.ioa_request.specs.Pasted.{IsPasted, texts}
-use Rattle.ioa_request.specs.CommandLine.{AreSeeds, AreSelected, AreSettings, IsAskedBy, Names, all_given, is_bounded, is_set, shown_by}
+use Rattle.ioa_request.specs.CommandLine.{AreSeeds, AreSelected, AreSettings, IsAskedBy, Names, all_given, is_bounded, is_set, mixes_json, shown_by}
 use Rattle.ioa_request.specs.Seeds.{range_in}
 use Rattle.ioa_request.specs.Selections.{are_in_order, bound_in}
 use Rattle.ioa_request.specs.Settings.{source_in, source_of, turns_in}
@@ -67,11 +67,11 @@ read_none m found name word r e f is h = subst (λ o. IfNone r (AsksNothing o)) 
 -- where the file is missing
 pub no_file : (word : Text) (rows : List Row) → (word ≡ codes "explain" → ⊥) → (word ≡ codes "library" → ⊥) → first_of (codes "FILE") rows ≡ None
     → AsksNothing (Some (word, rows))
-no_file word rows other another none (Request.Replay file composition) h = let z : None ≡ Some file.now = sym none ∙ h.1.0 in cc
+no_file word rows other another none (Request.Replay file composition json) h = let z : None ≡ Some file.now = sym none ∙ h.1.0 in cc
 no_file word rows other another none (Request.ReplayStates file composition shown) h = let z : None ≡ Some file.now = sym none ∙ h.1.0 in cc
-no_file word rows other another none (Request.ReplayLog file composition) h = let z : None ≡ Some file.now = sym none ∙ h.1.0 in cc
+no_file word rows other another none (Request.ReplayLog file composition json) h = let z : None ≡ Some file.now = sym none ∙ h.1.0 in cc
 no_file word rows other another none (Request.ReplayLogStates file composition shown) h = let z : None ≡ Some file.now = sym none ∙ h.1.0 in cc
-no_file word rows other another none (Request.ReplayInvariants file composition) h = let z : None ≡ Some file.now = sym none ∙ h.1.0 in cc
+no_file word rows other another none (Request.ReplayInvariants file composition json) h = let z : None ≡ Some file.now = sym none ∙ h.1.0 in cc
 no_file word rows other another none (Request.Log file composition) h = let z : None ≡ Some file.now = sym none ∙ h.1.0 in cc
 no_file word rows other another none (Request.LogByLog file composition) h = let z : None ≡ Some file.now = sym none ∙ h.1.0 in cc
 no_file word rows other another none (Request.Monitor file composition) h = let z : None ≡ Some file.now = sym none ∙ h.1.0 in cc
@@ -91,11 +91,11 @@ no_file word rows other another none Request.Library h = another h
 -- where there is nothing to explain
 pub no_explanation : (rows : List Row) → ((topic : Topic) (words : List Text) → all_of (codes "TEXT") rows ≡ Some words → IsPasted words topic → ⊥)
     → AsksNothing (Some (codes "explain", rows))
-no_explanation rows none (Request.Replay file composition) h = apart (codes "explain") (codes "replay") refl refl h.0.0
+no_explanation rows none (Request.Replay file composition json) h = apart (codes "explain") (codes "replay") refl refl h.0.0
 no_explanation rows none (Request.ReplayStates file composition shown) h = apart (codes "explain") (codes "replay") refl refl h.0.0
-no_explanation rows none (Request.ReplayLog file composition) h = apart (codes "explain") (codes "replay") refl refl h.0.0
+no_explanation rows none (Request.ReplayLog file composition json) h = apart (codes "explain") (codes "replay") refl refl h.0.0
 no_explanation rows none (Request.ReplayLogStates file composition shown) h = apart (codes "explain") (codes "replay") refl refl h.0.0
-no_explanation rows none (Request.ReplayInvariants file composition) h = apart (codes "explain") (codes "replay") refl refl h.0.0
+no_explanation rows none (Request.ReplayInvariants file composition json) h = apart (codes "explain") (codes "replay") refl refl h.0.0
 no_explanation rows none (Request.Log file composition) h = apart (codes "explain") (codes "log") refl refl h.0.0
 no_explanation rows none (Request.LogByLog file composition) h = apart (codes "explain") (codes "log") refl refl h.0.0
 no_explanation rows none (Request.Monitor file composition) h = apart (codes "explain") (codes "monitor") refl refl h.0
@@ -114,11 +114,11 @@ no_explanation rows none Request.Library h = apart (codes "explain") (codes "lib
 
 -- where no file is named for an object
 pub no_out : (rows : List Row) → first_of (codes "OUT") rows ≡ None → AsksNothing (Some (codes "compile", rows))
-no_out rows none (Request.Replay file composition) h = apart (codes "compile") (codes "replay") refl refl h.0.0
+no_out rows none (Request.Replay file composition json) h = apart (codes "compile") (codes "replay") refl refl h.0.0
 no_out rows none (Request.ReplayStates file composition shown) h = apart (codes "compile") (codes "replay") refl refl h.0.0
-no_out rows none (Request.ReplayLog file composition) h = apart (codes "compile") (codes "replay") refl refl h.0.0
+no_out rows none (Request.ReplayLog file composition json) h = apart (codes "compile") (codes "replay") refl refl h.0.0
 no_out rows none (Request.ReplayLogStates file composition shown) h = apart (codes "compile") (codes "replay") refl refl h.0.0
-no_out rows none (Request.ReplayInvariants file composition) h = apart (codes "compile") (codes "replay") refl refl h.0.0
+no_out rows none (Request.ReplayInvariants file composition json) h = apart (codes "compile") (codes "replay") refl refl h.0.0
 no_out rows none (Request.Log file composition) h = apart (codes "compile") (codes "log") refl refl h.0.0
 no_out rows none (Request.LogByLog file composition) h = apart (codes "compile") (codes "log") refl refl h.0.0
 no_out rows none (Request.Monitor file composition) h = apart (codes "compile") (codes "monitor") refl refl h.0
@@ -137,11 +137,11 @@ no_out rows none Request.Library h = apart (codes "compile") (codes "library") r
 
 -- where no specification is named
 pub no_specification : (rows : List Row) → all_of (codes "comp") rows ≡ None → AsksNothing (Some (codes "watch", rows))
-no_specification rows none (Request.Replay file composition) h = apart (codes "watch") (codes "replay") refl refl h.0.0
+no_specification rows none (Request.Replay file composition json) h = apart (codes "watch") (codes "replay") refl refl h.0.0
 no_specification rows none (Request.ReplayStates file composition shown) h = apart (codes "watch") (codes "replay") refl refl h.0.0
-no_specification rows none (Request.ReplayLog file composition) h = apart (codes "watch") (codes "replay") refl refl h.0.0
+no_specification rows none (Request.ReplayLog file composition json) h = apart (codes "watch") (codes "replay") refl refl h.0.0
 no_specification rows none (Request.ReplayLogStates file composition shown) h = apart (codes "watch") (codes "replay") refl refl h.0.0
-no_specification rows none (Request.ReplayInvariants file composition) h = apart (codes "watch") (codes "replay") refl refl h.0.0
+no_specification rows none (Request.ReplayInvariants file composition json) h = apart (codes "watch") (codes "replay") refl refl h.0.0
 no_specification rows none (Request.Log file composition) h = apart (codes "watch") (codes "log") refl refl h.0.0
 no_specification rows none (Request.LogByLog file composition) h = apart (codes "watch") (codes "log") refl refl h.0.0
 no_specification rows none (Request.Monitor file composition) h = apart (codes "watch") (codes "monitor") refl refl h.0
@@ -160,11 +160,11 @@ no_specification rows none Request.Library h = apart (codes "watch") (codes "lib
 
 -- where the entries that are asked for are none
 pub no_selection : (rows : List Row) → ((s : Selection) → AreSelected rows s → ⊥) → AsksNothing (Some (codes "chart", rows))
-no_selection rows none (Request.Replay file composition) h = apart (codes "chart") (codes "replay") refl refl h.0.0
+no_selection rows none (Request.Replay file composition json) h = apart (codes "chart") (codes "replay") refl refl h.0.0
 no_selection rows none (Request.ReplayStates file composition shown) h = apart (codes "chart") (codes "replay") refl refl h.0.0
-no_selection rows none (Request.ReplayLog file composition) h = apart (codes "chart") (codes "replay") refl refl h.0.0
+no_selection rows none (Request.ReplayLog file composition json) h = apart (codes "chart") (codes "replay") refl refl h.0.0
 no_selection rows none (Request.ReplayLogStates file composition shown) h = apart (codes "chart") (codes "replay") refl refl h.0.0
-no_selection rows none (Request.ReplayInvariants file composition) h = apart (codes "chart") (codes "replay") refl refl h.0.0
+no_selection rows none (Request.ReplayInvariants file composition json) h = apart (codes "chart") (codes "replay") refl refl h.0.0
 no_selection rows none (Request.Log file composition) h = apart (codes "chart") (codes "log") refl refl h.0.0
 no_selection rows none (Request.LogByLog file composition) h = apart (codes "chart") (codes "log") refl refl h.0.0
 no_selection rows none (Request.Monitor file composition) h = apart (codes "chart") (codes "monitor") refl refl h.0
@@ -183,11 +183,11 @@ no_selection rows none Request.Library h = apart (codes "chart") (codes "library
 
 -- where the invariants of a list are asked for
 pub no_log : (word : Text) (rows : List Row) → word ≡ codes "replay" → is_set (codes "log") rows ≡ false → is_set (codes "invariants") rows ≡ true → AsksNothing (Some (word, rows))
-no_log word rows is log invariants (Request.Replay file composition) h = false≢true (sym h.0.2 ∙ invariants)
+no_log word rows is log invariants (Request.Replay file composition json) h = false≢true (sym h.0.2 ∙ invariants)
 no_log word rows is log invariants (Request.ReplayStates file composition shown) h = false≢true (sym h.0.2 ∙ invariants)
-no_log word rows is log invariants (Request.ReplayLog file composition) h = false≢true (sym log ∙ h.0.1)
+no_log word rows is log invariants (Request.ReplayLog file composition json) h = false≢true (sym log ∙ h.0.1)
 no_log word rows is log invariants (Request.ReplayLogStates file composition shown) h = false≢true (sym log ∙ h.0.1)
-no_log word rows is log invariants (Request.ReplayInvariants file composition) h = false≢true (sym log ∙ h.0.1)
+no_log word rows is log invariants (Request.ReplayInvariants file composition json) h = false≢true (sym log ∙ h.0.1)
 no_log word rows is log invariants (Request.Log file composition) h = apart (codes "replay") (codes "log") refl refl (sym is ∙ h.0.0)
 no_log word rows is log invariants (Request.LogByLog file composition) h = apart (codes "replay") (codes "log") refl refl (sym is ∙ h.0.0)
 no_log word rows is log invariants (Request.Monitor file composition) h = apart (codes "replay") (codes "monitor") refl refl (sym is ∙ h.0)
@@ -206,11 +206,11 @@ no_log word rows is log invariants Request.Library h = apart (codes "replay") (c
 
 -- where invariants are asked for, and to tell of states
 pub no_both : (word : Text) (rows : List Row) (s : Shown) → word ≡ codes "replay" → is_set (codes "invariants") rows ≡ true → shown_by rows ≡ Some s → AsksNothing (Some (word, rows))
-no_both word rows s is invariants states (Request.Replay file composition) h = false≢true (sym h.0.2 ∙ invariants)
+no_both word rows s is invariants states (Request.Replay file composition json) h = false≢true (sym h.0.2 ∙ invariants)
 no_both word rows s is invariants states (Request.ReplayStates file composition shown) h = false≢true (sym h.0.2 ∙ invariants)
-no_both word rows s is invariants states (Request.ReplayLog file composition) h = false≢true (sym h.0.2 ∙ invariants)
+no_both word rows s is invariants states (Request.ReplayLog file composition json) h = false≢true (sym h.0.2 ∙ invariants)
 no_both word rows s is invariants states (Request.ReplayLogStates file composition shown) h = false≢true (sym h.0.2 ∙ invariants)
-no_both word rows s is invariants states (Request.ReplayInvariants file composition) h = let z : None ≡ Some s = sym h.0.3 ∙ states in cc
+no_both word rows s is invariants states (Request.ReplayInvariants file composition json) h = let z : None ≡ Some s = sym h.0.3 ∙ states in cc
 no_both word rows s is invariants states (Request.Log file composition) h = apart (codes "replay") (codes "log") refl refl (sym is ∙ h.0.0)
 no_both word rows s is invariants states (Request.LogByLog file composition) h = apart (codes "replay") (codes "log") refl refl (sym is ∙ h.0.0)
 no_both word rows s is invariants states (Request.Monitor file composition) h = apart (codes "replay") (codes "monitor") refl refl (sym is ∙ h.0)
@@ -227,6 +227,29 @@ no_both word rows s is invariants states (Request.Dump file) h = apart (codes "r
 no_both word rows s is invariants states (Request.Explain code) h = apart (codes "replay") (codes "explain") refl refl (sym is ∙ h.0)
 no_both word rows s is invariants states Request.Library h = apart (codes "replay") (codes "library") refl refl (sym is ∙ h)
 
+-- where objects are asked for, and to tell of states
+pub no_mixture : (word : Text) (rows : List Row) → word ≡ codes "replay" → mixes_json rows ≡ true → AsksNothing (Some (word, rows))
+no_mixture word rows is mixed (Request.Replay file composition json) h = false≢true (sym h.0.5 ∙ mixed)
+no_mixture word rows is mixed (Request.ReplayStates file composition shown) h = false≢true (sym h.0.5 ∙ mixed)
+no_mixture word rows is mixed (Request.ReplayLog file composition json) h = false≢true (sym h.0.5 ∙ mixed)
+no_mixture word rows is mixed (Request.ReplayLogStates file composition shown) h = false≢true (sym h.0.5 ∙ mixed)
+no_mixture word rows is mixed (Request.ReplayInvariants file composition json) h = false≢true (sym h.0.5 ∙ mixed)
+no_mixture word rows is mixed (Request.Log file composition) h = apart (codes "replay") (codes "log") refl refl (sym is ∙ h.0.0)
+no_mixture word rows is mixed (Request.LogByLog file composition) h = apart (codes "replay") (codes "log") refl refl (sym is ∙ h.0.0)
+no_mixture word rows is mixed (Request.Monitor file composition) h = apart (codes "replay") (codes "monitor") refl refl (sym is ∙ h.0)
+no_mixture word rows is mixed (Request.MonitorJson file composition) h = apart (codes "replay") (codes "monitor") refl refl (sym is ∙ h.0)
+no_mixture word rows is mixed (Request.StrictMonitor file composition json) h = apart (codes "replay") (codes "monitor") refl refl (sym is ∙ h.0)
+no_mixture word rows is mixed (Request.Watch file compositions first counts json) h = apart (codes "replay") (codes "watch") refl refl (sym is ∙ h.0)
+no_mixture word rows is mixed (Request.Chart file composition selection) h = apart (codes "replay") (codes "chart") refl refl (sym is ∙ h.0)
+no_mixture word rows is mixed (Request.Graph file composition) h = apart (codes "replay") (codes "graph") refl refl (sym is ∙ h.0)
+no_mixture word rows is mixed (Request.Run s) h = apart (codes "replay") (codes "run") refl refl (sym is ∙ h.0)
+no_mixture word rows is mixed (Request.Seeds s) h = apart (codes "replay") (codes "run") refl refl (sym is ∙ h.0)
+no_mixture word rows is mixed (Request.Check file compositions) h = apart (codes "replay") (codes "check") refl refl (sym is ∙ h.0)
+no_mixture word rows is mixed (Request.Compile file out composition) h = apart (codes "replay") (codes "compile") refl refl (sym is ∙ h.0)
+no_mixture word rows is mixed (Request.Dump file) h = apart (codes "replay") (codes "dump") refl refl (sym is ∙ h.0)
+no_mixture word rows is mixed (Request.Explain topic) h = apart (codes "replay") (codes "explain") refl refl (sym is ∙ h.0)
+no_mixture word rows is mixed Request.Library h = apart (codes "replay") (codes "library") refl refl (sym is ∙ h)
+
 -- where the bound is no number up to which a list or a log is taken
 neither_one : (word other : Text) → (word ≡ codes "replay") ⊎ (word ≡ codes "log") → bytes_eq (codes "replay") other ≡ false → bytes_eq (codes "log") other ≡ false
     → bytes_eq other other ≡ true → word ≡ other → ⊥
@@ -234,11 +257,11 @@ neither_one word other (inl is) a b same e = apart (codes "replay") other a same
 neither_one word other (inr is) a b same e = apart (codes "log") other b same (sym is ∙ e)
 
 pub no_bound : (word : Text) (rows : List Row) → (word ≡ codes "replay") ⊎ (word ≡ codes "log") → is_bounded rows ≡ false → AsksNothing (Some (word, rows))
-no_bound word rows is none (Request.Replay file composition) h = false≢true (sym none ∙ h.0.4)
+no_bound word rows is none (Request.Replay file composition json) h = false≢true (sym none ∙ h.0.4)
 no_bound word rows is none (Request.ReplayStates file composition shown) h = false≢true (sym none ∙ h.0.4)
-no_bound word rows is none (Request.ReplayLog file composition) h = false≢true (sym none ∙ h.0.4)
+no_bound word rows is none (Request.ReplayLog file composition json) h = false≢true (sym none ∙ h.0.4)
 no_bound word rows is none (Request.ReplayLogStates file composition shown) h = false≢true (sym none ∙ h.0.4)
-no_bound word rows is none (Request.ReplayInvariants file composition) h = false≢true (sym none ∙ h.0.4)
+no_bound word rows is none (Request.ReplayInvariants file composition json) h = false≢true (sym none ∙ h.0.4)
 no_bound word rows is none (Request.Log file composition) h = false≢true (sym none ∙ h.0.2)
 no_bound word rows is none (Request.LogByLog file composition) h = false≢true (sym none ∙ h.0.2)
 no_bound word rows is none (Request.Monitor file composition) h = neither_one word (codes "monitor") is refl refl refl h.0

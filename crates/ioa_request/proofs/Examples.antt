@@ -11,7 +11,7 @@ use Rattle.ioa_request.specs.declared.code.Code.{Code}
 use Rattle.ioa_request.specs.declared.cut.Cut.{Cut}
 use Rattle.ioa_request.specs.declared.request.Request.{Request}
 use Rattle.ioa_request.specs.declared.topic.Topic.{Topic}
-use Rattle.ioa_request.specs.CommandLine.{IsAsked, all_given, ioac_app, is_set}
+use Rattle.ioa_request.specs.CommandLine.{IsAsked, all_given, ioac_app, is_set, mixes_json}
 use Rattle.ioa_request.specs.Cuts.{cut_of}
 use Rattle.ioa_request.specs.Keys.{numbered_digits, numbered_key}
 use Rattle.ioa_request.specs.Pasted.{IsPasted}
@@ -266,3 +266,15 @@ strict_alone = refl
 object_alone : answered_by (codes "ioac" ∷ codes "monitor" ∷ codes "f" ∷ codes "--json" ∷ []) ≡ Some (Some (codes "f"), false, true)
 unfolding answered_by clap_on_literals
 object_alone = refl
+
+-- whether a replay is asked for objects, and for what has none
+objects_with : List Text → Option (Bool × Bool)
+objects_with words = option_map (λ p. (is_set (codes "json") p.1, mixes_json p.1)) (subcommand_of ioac_app words)
+
+objects_of_a_log : objects_with (codes "ioac" ∷ codes "replay" ∷ codes "--log" ∷ codes "f" ∷ codes "--json" ∷ []) ≡ Some (true, false)
+unfolding objects_with clap_on_literals
+objects_of_a_log = refl
+
+objects_of_states : objects_with (codes "ioac" ∷ codes "replay" ∷ codes "--json" ∷ codes "--states" ∷ codes "f" ∷ []) ≡ Some (true, true)
+unfolding objects_with clap_on_literals
+objects_of_states = refl

@@ -147,8 +147,8 @@ library_app = with_rule (new_app (codes "library")) explain_rule
 
 abbrev pub replay_app : App
 replay_app =
-    with_rule (with_rule (with_rule (with_rule (with_rule (with_rule (with_rule (with_rule (new_app (codes "replay")) file_rule) comp_rule) log_rule) invariants_rule) states_rule) enabled_rule)
-    until_rule) explain_rule
+    with_rule (with_rule (with_rule (with_rule (with_rule (with_rule (with_rule (with_rule (with_rule (new_app (codes "replay")) file_rule) comp_rule) log_rule) invariants_rule) states_rule) enabled_rule)
+    until_rule) json_rule) explain_rule
 
 abbrev pub log_app : App
 log_app = with_rule (with_rule (with_rule (with_rule (with_rule (new_app (codes "log")) file_rule) comp_rule) log_rule) until_rule) explain_rule
@@ -168,8 +168,8 @@ graph_app = with_rule (with_rule (with_rule (new_app (codes "graph")) file_rule)
 
 abbrev pub run_app : App
 run_app =
-    with_rule (with_rule (with_rule (with_rule (with_rule (with_rule (with_rule (with_rule (with_rule (with_rule (with_rule (with_rule (with_rule (with_rule (with_rule (new_app (codes "run")) file_rule) comp_rule)
-    alone_rule) turns_rule) seed_rule) words_rule) seeds_rule) monitor_rule) invariants_rule) keep_rule) inputs_rule) resume_rule) log_rule) reports_rule) explain_rule
+    with_rule (with_rule (with_rule (with_rule (with_rule (with_rule (with_rule (with_rule (with_rule (with_rule (with_rule (with_rule (with_rule (with_rule (with_rule (with_rule (new_app (codes "run")) file_rule) comp_rule)
+    alone_rule) turns_rule) seed_rule) words_rule) seeds_rule) monitor_rule) invariants_rule) keep_rule) json_rule) inputs_rule) resume_rule) log_rule) reports_rule) explain_rule
 
 -- a subcommand has to stand; where no word stands, help is given; there is a version, and a subcommand `help` of the crate that parses
 abbrev pub bare_app : App
@@ -213,11 +213,15 @@ is_bounded rows = is_some (bound_in (first_of (codes "until") rows))
 abbrev pub shown_by : List Row → Option Shown
 shown_by rows = shown_in (is_set (codes "states") rows) (is_set (codes "enabled") rows)
 
+-- a replay's values ask for objects, and to tell of states, of which there are no objects
+abbrev pub mixes_json : List Row → Bool
+mixes_json rows = is_set (codes "json") rows && (is_set (codes "states") rows || is_set (codes "enabled") rows)
+
 -- it is a replay, of a log or not, asked for invariants or not, and to tell this of states, or nothing
 abbrev pub IsReplayWith : Bool → Bool → Option Shown → Text × List Row → Type 0
 IsReplayWith log invariants shown found =
     (found.0 ≡ codes "replay") × (is_set (codes "log") found.1 ≡ log) × (is_set (codes "invariants") found.1 ≡ invariants) × (shown_by found.1 ≡ shown)
-    × (is_bounded found.1 ≡ true)
+    × (is_bounded found.1 ≡ true) × (mixes_json found.1 ≡ false)
 
 -- it writes a log, of a log or of a list
 abbrev pub IsLogWith : Bool → Text × List Row → Type 0
@@ -246,6 +250,7 @@ pub record AreSettings (rows : List Row) (s : Settings) : Type 0 where
 abbrev pub asks_seeds : List Row → Bool
 asks_seeds rows =
     is_some (first_of (codes "seeds") rows) || is_some (first_of (codes "monitor") rows) || is_some (first_of (codes "keep") rows) || is_set (codes "invariants") rows
+    || is_set (codes "json") rows
 
 -- the values of an option that may stand several times, or not at all
 abbrev pub all_given : Text → List Row → List Text
@@ -264,6 +269,7 @@ pub record AreSeeds (rows : List Row) (s : Seeds) : Type 0 where
   pub range : option_and_then range_in (first_of (codes "seeds") rows) ≡ Some (s.first, s.last)
   pub monitors : all_given (codes "monitor") rows ≡ texts s.monitors.now
   pub invariants : is_set (codes "invariants") rows ≡ s.invariants
+  pub json : is_set (codes "json") rows ≡ s.json
   pub keep : first_of (codes "keep") rows ≡ option_copied s.keep
 
 -- the entries of this selection are what a subcommand's values ask for
@@ -273,20 +279,20 @@ pub record AreSelected (rows : List Row) (s : Selection) : Type 0 where
   pub order : are_in_order s.from s.to ≡ true
   pub without : texts s.without.now ≡ names_in (all_of (codes "without") rows)
 
--- a subcommand with its values, if there is one, asks for this; a replay of a list cannot be asked for invariants, and no replay for
--- invariants and to tell of states
+-- a subcommand with its values, if there is one, asks for this; a replay of a list cannot be asked for invariants, no replay for
+-- invariants and to tell of states, and none for objects and to tell of states
 abbrev pub IsAskedBy : Option (Text × List Row) → Request → Type 0
 IsAskedBy None request = ⊥
-IsAskedBy (Some found) (Request.Replay file composition) =
-    IsReplayWith false false None found × Names found.1 file.now (option_copied composition)
+IsAskedBy (Some found) (Request.Replay file composition json) =
+    IsReplayWith false false None found × Names found.1 file.now (option_copied composition) × (is_set (codes "json") found.1 ≡ json)
 IsAskedBy (Some found) (Request.ReplayStates file composition shown) =
     IsReplayWith false false (Some shown) found × Names found.1 file.now (option_copied composition)
-IsAskedBy (Some found) (Request.ReplayLog file composition) =
-    IsReplayWith true false None found × Names found.1 file.now (option_copied composition)
+IsAskedBy (Some found) (Request.ReplayLog file composition json) =
+    IsReplayWith true false None found × Names found.1 file.now (option_copied composition) × (is_set (codes "json") found.1 ≡ json)
 IsAskedBy (Some found) (Request.ReplayLogStates file composition shown) =
     IsReplayWith true false (Some shown) found × Names found.1 file.now (option_copied composition)
-IsAskedBy (Some found) (Request.ReplayInvariants file composition) =
-    IsReplayWith true true None found × Names found.1 file.now (option_copied composition)
+IsAskedBy (Some found) (Request.ReplayInvariants file composition json) =
+    IsReplayWith true true None found × Names found.1 file.now (option_copied composition) × (is_set (codes "json") found.1 ≡ json)
 IsAskedBy (Some found) (Request.Log file composition) = IsLogWith false found × Names found.1 file.now (option_copied composition)
 IsAskedBy (Some found) (Request.LogByLog file composition) = IsLogWith true found × Names found.1 file.now (option_copied composition)
 IsAskedBy (Some found) (Request.Monitor file composition) =

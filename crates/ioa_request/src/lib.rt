@@ -35,7 +35,7 @@ pub use cut::{Cut, read_cut};
 pub use fields::first_field;
 pub use key::{numbered_digits, numbered_key};
 pub use numerals::numeral;
-pub use reading::{is_explained, is_set, read_request};
+pub use reading::{is_explained, is_set, mixes_json, read_request};
 pub use request::{Request, parse};
 pub use seeds::{Seeds, asks_seeds, is_given, read_range};
 pub use selection::{Selection, read_bound};

@@ -17,8 +17,8 @@ use crate::shown::read_shown;
 use clap::ArgMatches;
 
 /// The request of a command line without a fault. None where a word is missing, which a parse rules out, where there is nothing to explain,
-/// where the invariants of a list are asked for, or invariants and to tell of states, or where the settings of a run, or of runs by many seeds, or
-/// the bounds of a chart, of a list or of a log, are none.
+/// where the invariants of a list are asked for, or invariants and to tell of states, or objects and to tell of states, or where the settings of a run, or of runs
+/// by many seeds, or the bounds of a chart, of a list or of a log, are none.
 pub fn read_request<'m>(matches: &'m ArgMatches<'_>) -> Option<Request<'m>>
     ensures some { IfSome result (λ asked. IsAskedBy (subcommand_rows_of matches.now) asked) }
     ensures none { IfNone result ((asked : Request) → IsAskedBy (subcommand_rows_of matches.now) asked → ⊥) }
@@ -52,10 +52,20 @@ pub fn is_set(found: &ArgMatches<'_>, flag: &str) -> bool
 }
 
 /// Whether objects are asked for in place of text.
-fn asks_json(found: &ArgMatches<'_>) -> bool
+pub fn asks_json(found: &ArgMatches<'_>) -> bool
     ensures { result ≡ asked.is_set (codes "json") (rows_of (found_of found.now)) }
 {
     is_set(found, "json")
+}
+
+/// Whether a replay is asked for objects, and to tell of states, of which there are no objects.
+pub fn mixes_json(found: &ArgMatches<'_>) -> bool
+    ensures { result ≡ asked.mixes_json (rows_of (found_of found.now)) }
+{
+    let json = asks_json(found);
+    let states = is_set(found, "states");
+    let enabled = is_set(found, "enabled");
+    json && (states || enabled)
 }
 
 /// Whether what comes of it is to be explained.
@@ -86,24 +96,40 @@ fn read_replay<'m>(found: &'m ArgMatches<'_>) -> Option<Request<'m>>
     if !is_bounded(found) {
         return None;
     }
+    if mixes_json(found) {
+        return None;
+    }
+    let json = asks_json(found);
     match (
         is_set(found, "log"),
         is_set(found, "invariants"),
         read_shown(found),
     ) {
-        (false, false, None) => Some(Request::Replay { file, composition }),
+        (false, false, None) => Some(Request::Replay {
+            file,
+            composition,
+            json,
+        }),
         (false, false, Some(shown)) => Some(Request::ReplayStates {
             file,
             composition,
             shown,
         }),
-        (true, false, None) => Some(Request::ReplayLog { file, composition }),
+        (true, false, None) => Some(Request::ReplayLog {
+            file,
+            composition,
+            json,
+        }),
         (true, false, Some(shown)) => Some(Request::ReplayLogStates {
             file,
             composition,
             shown,
         }),
-        (true, true, None) => Some(Request::ReplayInvariants { file, composition }),
+        (true, true, None) => Some(Request::ReplayInvariants {
+            file,
+            composition,
+            json,
+        }),
         (true, true, Some(_)) => None,
         (false, true, _) => None,
     }

@@ -6,7 +6,7 @@ ghost use Rattle.ioa_request.specs.CommandLine.{IsLocal, check_app, comp_rule, c
 
 use crate::chart_usage::chart_command;
 use crate::cut_usage::until_option;
-use crate::monitor_usage::monitor_command;
+use crate::monitor_usage::{json_flag, monitor_command};
 use crate::run_usage::run_command;
 use crate::seeds::Seeds;
 use crate::selection::Selection;
@@ -25,6 +25,8 @@ pub enum Request<'a> {
     Replay {
         file: &'a str,
         composition: Option<&'a str>,
+        /// Whether objects are told.
+        json: bool,
     },
     /// To replay the list on standard input in a composition of a source, and to tell of the states in which it ends.
     ReplayStates {
@@ -37,6 +39,8 @@ pub enum Request<'a> {
     ReplayLog {
         file: &'a str,
         composition: Option<&'a str>,
+        /// Whether objects are told.
+        json: bool,
     },
     /// To replay the log on standard input in a composition of a source, and to tell of the states in which it ends.
     ReplayLogStates {
@@ -49,6 +53,8 @@ pub enum Request<'a> {
     ReplayInvariants {
         file: &'a str,
         composition: Option<&'a str>,
+        /// Whether objects are told.
+        json: bool,
     },
     /// To write the log of the run of the list on standard input in a composition of a source, or in an object.
     Log {
@@ -346,6 +352,7 @@ fn replay_command<'a>(alloc: Global) -> Result<Command<'a>, AllocError>
     let command = taking(command, states_flag(alloc));
     let command = taking(command, enabled_flag(alloc));
     let command = taking(command, until_option(alloc));
+    let command = taking(command, json_flag(alloc));
     taking(command, explain_flag(alloc))
 }
 
@@ -359,12 +366,14 @@ fn described_replay<'a>(alloc: Global) -> Command<'a>
         .after_help(
             "The list has one action a line, as `tick(5)`. Blank lines and lines that begin with % are skipped.\n\
              A log has one JSON object a line, as `{\"act\":\"tick(5)\",\"who\":0}`, and last `{\"end\":\"done after 1\"}`.\n\
+             With --json each line is an object, as `{\"act\":\"tick(5)\"}`, and last `{\"end\":\"done\",\"count\":1}`;\n\
+             a broken invariant is one, as `{\"verdict\":\"broken\",\"invariant\":0,\"component\":1,\"count\":7}`.\n\
              Example: ioac replay protocol.ioa < actions.txt\n\
              Exit status: 0 done, 1 source or object refused, 2 bad command line, 3 ended by a fault,\n\
              4 list or log refused, invariant broken, or ended not enabled or not an action, 5 memory, the file or a device.",
         )
         .override_usage(
-            "ioac replay [--comp <NAME>] [--log [--invariants]] [--states] [--enabled] [--until <N>] [--explain] <FILE>",
+            "ioac replay [--comp <NAME>] [--log [--invariants]] [--states] [--enabled] [--until <N>] [--json] [--explain] <FILE>",
         )
 }
 

@@ -4,6 +4,7 @@ ghost use Rattle.std.specs.Prelude.{◌≡◌, false, codes, IfOk};
 ghost use Rattle.clap.specs.Words.{app_of, new_app, rule_of};
 ghost use Rattle.ioa_request.specs.CommandLine.{IsLocal, alone_rule, inputs_rule, invariants_rule, keep_rule, log_rule, monitor_rule, reports_rule, resume_rule, run_app, seed_rule, seeds_rule, turns_rule, words_rule};
 
+use crate::monitor_usage::json_flag;
 use crate::request::{composition_option, explain_flag, file_argument, taking};
 use clap::{Arg, ArgAction, Command};
 use std::alloc::{AllocError, Global};
@@ -151,6 +152,7 @@ pub fn run_command<'a>(alloc: Global) -> Result<Command<'a>, AllocError>
     let command = taking(command, monitor_option(alloc));
     let command = taking(command, invariants_flag(alloc));
     let command = taking(command, keep_option(alloc));
+    let command = taking(command, json_flag(alloc));
     let command = taking(command, inputs_option(alloc));
     let command = taking(command, resume_option(alloc));
     let command = taking(command, log_flag(alloc));
@@ -174,6 +176,7 @@ fn described_run<'a>(alloc: Global) -> Command<'a>
              as `ioac monitor` gives it of the run's log: `Spec: ok`, or why not. The source has the specifications.\n\
              With --invariants behind that stands the first of the source's invariants that is broken, as `ioac replay --log --invariants`\n\
              prints it of the run's log: `invariants: ok`, or `invariant 0 of component 1 broken after 7`.\n\
+             With --json each line is an object, as `{\"seed\":\"00..01\",\"end\":\"done\",\"count\":40,\"verdicts\":[]}`, with the 64 digits.\n\
              KFILE is new, empty or a log, and gets the shortest log that is refused by one of these, the first of those that have as few entries.\n\
              RFILE has a log as `ioac run --log` prints it: the run begins with its actions; turns, words and inputs begin anew.\n\
              Example: ioac run --alone --turns 20 protocol.ioa\n\
@@ -181,6 +184,6 @@ fn described_run<'a>(alloc: Global) -> Command<'a>
              4 inputs or log refused, a run not accepted, or no specification, 5 memory, a thread, a file or a device.",
         )
         .override_usage(
-            "ioac run [--comp <NAME>] [--alone] [--turns <N>] [--seed <HEX>|--words <WFILE>|--seeds <A..B> [--monitor <SPEC>].. [--invariants] [--keep <KFILE>]] [--inputs <LFILE>] [--resume <RFILE>] [--log] [--reports] [--explain] <FILE>",
+            "ioac run [--comp <NAME>] [--alone] [--turns <N>] [--seed <HEX>|--words <WFILE>|--seeds <A..B> [--monitor <SPEC>].. [--invariants] [--keep <KFILE>] [--json]] [--inputs <LFILE>] [--resume <RFILE>] [--log] [--reports] [--explain] <FILE>",
         )
 }

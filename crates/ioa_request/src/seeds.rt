@@ -10,7 +10,7 @@ ghost use Rattle.ioa_request.specs.declared.seeds.Seeds.{Seeds};
 
 use crate::fields::parted;
 use crate::numerals::numeral;
-use crate::reading::is_set;
+use crate::reading::{asks_json, is_set};
 use crate::settings::{Settings, read_settings};
 use clap::ArgMatches;
 
@@ -27,6 +27,8 @@ pub struct Seeds<'a> {
     pub monitors: &'a [&'a str],
     /// Whether it is asked if the states of each run keep the source's invariants.
     pub invariants: bool,
+    /// Whether objects are told.
+    pub json: bool,
     /// The file for the shortest log that is not accepted, or whose states break an invariant, if one is to be kept.
     pub keep: Option<&'a str>,
 }
@@ -42,6 +44,7 @@ pub fn read_seeds<'m>(found: &'m ArgMatches<'_>) -> Option<Seeds<'m>>
     let run = read_settings(found)?;
     let monitors = all_given(found, "monitor");
     let invariants = is_set(found, "invariants");
+    let json = asks_json(found);
     let keep = found.get_str("keep");
     if admits_seeds(found) {
         Some(Seeds {
@@ -50,6 +53,7 @@ pub fn read_seeds<'m>(found: &'m ArgMatches<'_>) -> Option<Seeds<'m>>
             last,
             monitors,
             invariants,
+            json,
             keep,
         })
     } else {
@@ -72,6 +76,7 @@ pub fn asks_seeds(found: &ArgMatches<'_>) -> bool
         || is_given(found, "monitor")
         || is_given(found, "keep")
         || is_set(found, "invariants")
+        || is_set(found, "json")
 }
 
 /// The first number and the last one of `A..B`, if the word is that of two numbers of 64 bits, of which the first is no greater.

@@ -1,5 +1,5 @@
 -- An object that is compiled of a source does as the source: its program is the one that was compiled.
-use Rattle.std.proofs.Common.{◌≡◌, ℕ, Bool, List, Option, true, sym, ap, ◌∙◌, subst}
+use Rattle.std.proofs.Common.{◌≡◌, ℕ, Bool, List, Option, true, sym, ap, ap₂, ◌∙◌, subst}
 use Rattle.std.specs.Io.KnownBytes.{Appends}
 use Rattle.std.proofs.lemmas.Bool.{false≢true}
 use Rattle.ioa_value.specs.Actions.{Act, Name}
@@ -17,7 +17,7 @@ use Rattle.ioa_system.specs.Logs.{actions_of}
 use Rattle.ioa_system.proofs.Hosting.{host_run, host_trace}
 use Rattle.ioa_log.specs.Judging.{agrees}
 use Rattle.ioa_log.specs.LogTexts.{ReadsLog, log_text}
-use Rattle.ioa_log.specs.Replays.{Replays, replay_text, run_text}
+use Rattle.ioa_log.specs.Replays.{replay_text, run_text}
 use Rattle.ioa_log.specs.RunLogs.{WritesRunLog}
 use Rattle.ioa_log.proofs.Hosting.{hosts_judged, hosts_monitored, hosts_seen}
 use Rattle.ioa_log.proofs.Judged.{judged_means}
@@ -28,10 +28,11 @@ use Rattle.ioa_serving.specs.Carried.{ChartsAsSource, GraphsAsSource, LogsListsA
 use Rattle.ioa_serving.specs.Compiling.{IsCompiled}
 use Rattle.ioa_serving.specs.Headline.{IsFileOf, begins_object}
 use Rattle.ioa_serving.specs.LogLogs.{WritesLog}
-use Rattle.ioa_serving.specs.Logs.{Monitors, ReplaysLog, performed_in}
+use Rattle.ioa_serving.specs.Logs.{Monitors, performed_in}
+use Rattle.ioa_serving.specs.Objects.{ReplaysAs, ReplaysLogAs, rendered}
 use Rattle.ioa_picture.specs.Selections.{Selection}
 use Rattle.ioa_serving.specs.Pictures.{ChartsLog}
-use Rattle.ioa_serving.specs.Subjects.{Subject, of_hosts, its_components, its_hidden, its_starts, its_types, of_table}
+use Rattle.ioa_serving.specs.Subjects.{Subject, of_hosts, its_components, its_starts, its_types, of_table}
 use Rattle.ioa_serving.proofs.Pictured.{charted_as}
 
 -- what the table does, the hosts do
@@ -48,17 +49,22 @@ module _ (p : Prog) (h : Hosted) (c : Composed) (s : Simulates h c) (m : Impleme
       ∙ ap (λ xs. replay_text h.types xs end) (host_trace p h c acts n s m)
       ∙ ap (replay_text h.types (trace h.hidden (hosts_of h) acts n)) (same_ending acts)
 
-  hosts_replay : (bytes : List ℕ) (end : Ending) (before after : Option (List ℕ)) → Replays p.types p.hidden (tabled p) (start_states p) bytes end before after
-      → Replays h.types h.hidden (hosts_of h) (host_starts h) bytes end before after
-  hosts_replay bytes end before after (acts, reads, ends, text) =
-      (acts, subst (λ ts. ReadsList ts bytes acts) (m.types ∙ s.types) reads, ends ∙ same_ending acts, subst (λ (bs : List ℕ). Appends before after bs) (same_text acts) text)
+  hosts_replay : (json : Bool) (bytes : List ℕ) (end : Ending) (before after : Option (List ℕ)) → ReplaysAs json (of_table p) bytes end before after
+      → ReplaysAs json (of_hosts h) bytes end before after
+  hosts_replay json bytes end before after (acts, reads, ends, text) = (
+    acts,
+    subst (λ ts. ReadsList ts bytes acts) (m.types ∙ s.types) reads,
+    ends ∙ same_ending acts,
+    subst (λ (bs : List ℕ). Appends before after bs) (ap₂ (rendered json) (same_text acts) (same_ending acts)) text,
+  )
 
-  hosts_replay_log : (bytes : List ℕ) (end : Ending) (before after : Option (List ℕ)) → ReplaysLog (of_table p) bytes end before after → ReplaysLog (of_hosts h) bytes end before after
-  hosts_replay_log bytes end before after (log, (reads, agree), ends, text) = (
+  hosts_replay_log : (json : Bool) (bytes : List ℕ) (end : Ending) (before after : Option (List ℕ)) → ReplaysLogAs json (of_table p) bytes end before after
+      → ReplaysLogAs json (of_hosts h) bytes end before after
+  hosts_replay_log json bytes end before after (log, (reads, agree), ends, text) = (
     log,
     (subst (λ ts. ReadsLog ts bytes log) (m.types ∙ s.types) reads, hosts_judged h c s log agrees (judged_means p c log m ∙ agree)),
     ends ∙ same_ending (actions_of log),
-    subst (λ (bs : List ℕ). Appends before after bs) (same_text (actions_of log)) text,
+    subst (λ (bs : List ℕ). Appends before after bs) (ap₂ (rendered json) (same_text (actions_of log)) (same_ending (actions_of log))) text,
   )
 
   hosts_log_again : (bytes : List ℕ) (end : Ending) (before after : Option (List ℕ)) → WritesLog (of_table p) bytes end before after → WritesLog (of_hosts h) bytes end before after
@@ -108,13 +114,12 @@ carried P text bytes name of over (h, gives, (p, runs, is)) (of_table q, given, 
     (of_hosts h, gives, over p h runs.0 runs.1 runs.2 (subst (λ x. P (of_table x)) (one_program bytes q p given.object is) holds))
 
 pub replays_as_source : ReplaysAsSource
-replays_as_source text object name of bytes end before after =
-    carried (λ x. Replays (its_types x) (its_hidden x) (its_components x) (its_starts x) bytes end before after) text object name of
-    (λ p h c s m k. hosts_replay p h c s m bytes end before after k)
+replays_as_source json text object name of bytes end before after =
+    carried (λ x. ReplaysAs json x bytes end before after) text object name of (λ p h c s m k. hosts_replay p h c s m json bytes end before after k)
 
 pub logs_as_source : ReplaysLogsAsSource
-logs_as_source text object name of bytes end before after =
-    carried (λ x. ReplaysLog x bytes end before after) text object name of (λ p h c s m k. hosts_replay_log p h c s m bytes end before after k)
+logs_as_source json text object name of bytes end before after =
+    carried (λ x. ReplaysLogAs json x bytes end before after) text object name of (λ p h c s m k. hosts_replay_log p h c s m json bytes end before after k)
 
 pub list_logs_as_source : LogsListsAsSource
 list_logs_as_source text object name of bytes end before after =

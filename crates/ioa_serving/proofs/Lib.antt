@@ -18,12 +18,14 @@ pub mod ListedLines
 pub mod Logged
 pub mod Made
 pub mod Named
+pub mod ObjectTexts
 pub mod Pacing
 pub mod Pictured
 pub mod Pieces
 pub mod Placed
 pub mod Refused
 pub mod RoundRobin
+pub mod Rows
 pub mod RunLogs
 pub mod RunServed
 pub mod SeedCuts
@@ -37,6 +39,7 @@ pub mod Specified
 pub mod Streams
 pub mod Strictly
 pub mod Subjects
+pub mod ToldObjects
 pub mod Traced
 pub mod Unrun
 pub mod Wanting

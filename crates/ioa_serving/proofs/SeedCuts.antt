@@ -42,7 +42,7 @@ pub answers_count : (w : Sown) (turns n : ℕ) (r : JudgedRun) → IsSeedJudgmen
 answers_count w turns n r k = sym (length-map r.answers.items (option_map ending_of)) ∙ ap length k.answers ∙ length-map w.specifications.items (table_answer (logged r.log))
 
 module _ (w : Sown) (s : Seeds) (old mid : Option (List ℕ)) (js : List Judged) (number : ℕ) (next : s.first + length js ≡ number) (few : length js ≤ seeds_count s)
-    (runs : AreSeedJudgments w s.run.turns s.first js) (told : Appends old mid (seed_lines (monitors_of s) s.first js)) where
+    (runs : AreSeedJudgments w s.run.turns s.first js) (told : Appends old mid (seed_lines s.json (monitors_of s) s.first js)) where
   -- a run is refused
   pub refused_next : (failed : Type 0) (e : RunErr) → IsSeedRefused w s.run.turns e → IsNoneRun w s.run.turns old mid (run_failure e) ⊎ IsBegun w s failed old mid (run_failure e)
   refused_next failed e k = go js few runs told
@@ -54,35 +54,35 @@ module _ (w : Sown) (s : Seeds) (old mid : Option (List ℕ)) (js : List Judged)
           last (inl is) = is
           last (inr h) = only_memory w.ready.program (logged w.ready.log) (map act_of w.ready.script.items) s.run.turns first.0.run.outcome e first.0.run.begun h.0 h.1
 
-      go : (xs : List Judged) → length xs ≤ seeds_count s → AreSeedJudgments w s.run.turns s.first xs → Appends old mid (seed_lines (monitors_of s) s.first xs)
+      go : (xs : List Judged) → length xs ≤ seeds_count s → AreSeedJudgments w s.run.turns s.first xs → Appends old mid (seed_lines s.json (monitors_of s) s.first xs)
           → IsNoneRun w s.run.turns old mid (run_failure e) ⊎ IsBegun w s failed old mid (run_failure e)
       go [] less all lines = inl ((e, refl, k), nothing old mid lines)
       go (x ∷ xs) less all lines = inr (record { judged = x ∷ xs; few = less; runs = all; cut = inr (inr (ap run_failure (short x xs all)), lines) })
 
   module _ (j : Judged) (run : IsSeedJudgment w s.run.turns number j) where
-    joined : seed_lines (monitors_of s) s.first js ++ seed_line (monitors_of s) number j ≡ seed_lines (monitors_of s) s.first (js ++ j ∷ [])
-    joined = ap (λ m. seed_lines (monitors_of s) s.first js ++ seed_line (monitors_of s) m j) (sym next) ∙ sym (more_lines (monitors_of s) s.first js j)
+    joined : seed_lines s.json (monitors_of s) s.first js ++ seed_line s.json (monitors_of s) number j ≡ seed_lines s.json (monitors_of s) s.first (js ++ j ∷ [])
+    joined = ap (λ m. seed_lines s.json (monitors_of s) s.first js ++ seed_line s.json (monitors_of s) m j) (sym next) ∙ sym (more_lines s.json (monitors_of s) s.first js j)
 
     pub runs_on : AreSeedJudgments w s.run.turns s.first (js ++ j ∷ [])
     runs_on = more_runs w s.run.turns s.first js j runs (subst (λ m. IsSeedJudgment w s.run.turns m j) (sym next) run)
 
     -- its line is told
-    pub told_on : (new : Option (List ℕ)) → Appends mid new (seed_line (monitors_of s) number j) → Appends old new (seed_lines (monitors_of s) s.first (js ++ j ∷ []))
+    pub told_on : (new : Option (List ℕ)) → Appends mid new (seed_line s.json (monitors_of s) number j) → Appends old new (seed_lines s.json (monitors_of s) s.first (js ++ j ∷ []))
     told_on new line =
-        subst (Appends old new) joined (Appends-trans old mid new (seed_lines (monitors_of s) s.first js) (seed_line (monitors_of s) number j) told line)
+        subst (Appends old new) joined (Appends-trans old mid new (seed_lines s.json (monitors_of s) s.first js) (seed_line s.json (monitors_of s) number j) told line)
 
     -- or is not
     pub cut_on : {T : Type 0} (new : Option (List ℕ)) (failed : Type 0) (x : LogErr) → suc (length js) ≤ seeds_count s → (x ≡ LogErr.Io) ⊎ (x ≡ LogErr.OutOfMemory)
-        → (IsErrOf {T = T} (Err x) LogErr.Io → failed) → (IsErrOf {T = T} (Err x) LogErr.Io → (k : ℕ) × Appends mid new (take k (seed_line (monitors_of s) number j)))
+        → (IsErrOf {T = T} (Err x) LogErr.Io → failed) → (IsErrOf {T = T} (Err x) LogErr.Io → (k : ℕ) × Appends mid new (take k (seed_line s.json (monitors_of s) number j)))
         → (IsErrOf {T = T} (Err x) LogErr.OutOfMemory → Keeps mid new) → IsBegun w s failed old new (Failure.List x)
     cut_on new failed x less (inl is) io begun memory =
-        let b = begun_last old mid new (seed_lines (monitors_of s) s.first js) (seed_line (monitors_of s) number j) told (begun (ap Err is)) in
+        let b = begun_last old mid new (seed_lines s.json (monitors_of s) s.first js) (seed_line s.json (monitors_of s) number j) told (begun (ap Err is)) in
         let more : length (js ++ j ∷ []) ≤ seeds_count s = omega (arith, length-append js (j ∷ [])) in
         record {
           judged = js ++ j ∷ [];
           few = more;
           runs = runs_on;
-          cut = inl (ap Failure.List is, io (ap Err is), (seed_lines (monitors_of s) s.first (js ++ j ∷ []), b.0, inl refl, subst (λ t. Appends old new (take b.0 t)) joined b.1));
+          cut = inl (ap Failure.List is, io (ap Err is), (seed_lines s.json (monitors_of s) s.first (js ++ j ∷ []), b.0, inl refl, subst (λ t. Appends old new (take b.0 t)) joined b.1));
         }
     cut_on new failed x less (inr is) io begun memory =
-        record { judged = js; few = few; runs = runs; cut = inr (inl (ap Failure.List is), kept_on old mid new (seed_lines (monitors_of s) s.first js) told (memory (ap Err is))) }
+        record { judged = js; few = few; runs = runs; cut = inr (inl (ap Failure.List is), kept_on old mid new (seed_lines s.json (monitors_of s) s.first js) told (memory (ap Err is))) }

@@ -23,15 +23,15 @@ use Rattle.ioa_serving.specs.declared.sown.Sown.{Sown}
 use Rattle.ioa_serving.specs.SeedRuns.{AreSeedJudgments, IsCountOf, IsSeedJudgment}
 
 -- a run more is told behind the lines, by the number that comes next
-pub more_lines : (names : List Name) (n : ℕ) (js : List Judged) (j : Judged) → seed_lines names n (js ++ j ∷ []) ≡ seed_lines names n js ++ seed_line names (n + length js) j
-more_lines names n [] j =
+pub more_lines : (json : Bool) (names : List Name) (n : ℕ) (js : List Judged) (j : Judged) → seed_lines json names n (js ++ j ∷ []) ≡ seed_lines json names n js ++ seed_line json names (n + length js) j
+more_lines json names n [] j =
     let e : n ≡ n + 0 = omega arith in
-    append-nil (seed_line names n j) ∙ ap (λ m. seed_line names m j) e
-more_lines names n (x ∷ xs) j =
+    append-nil (seed_line json names n j) ∙ ap (λ m. seed_line json names m j) e
+more_lines json names n (x ∷ xs) j =
     let e : suc n + length xs ≡ n + suc (length xs) = omega arith in
-    ap (λ t. seed_line names n x ++ t) (more_lines names (suc n) xs j)
-    ∙ ap (λ m. seed_line names n x ++ (seed_lines names (suc n) xs ++ seed_line names m j)) e
-    ∙ sym (append_assoc (seed_line names n x) (seed_lines names (suc n) xs) (seed_line names (n + suc (length xs)) j))
+    ap (λ t. seed_line json names n x ++ t) (more_lines json names (suc n) xs j)
+    ∙ ap (λ m. seed_line json names n x ++ (seed_lines json names (suc n) xs ++ seed_line json names m j)) e
+    ∙ sym (append_assoc (seed_line json names n x) (seed_lines json names (suc n) xs) (seed_line json names (n + suc (length xs)) j))
 
 -- how many there are of a kind
 one_more : (p : Judged → Bool) (js : List Judged) (j : Judged) → count_by p (js ++ j ∷ []) ≡ count_by p js + cond (p j) 1 0

@@ -163,7 +163,7 @@ module _ (f : Files) (s : Seeds) (w : Sown) (k : HasSown f.holds s w) (room : If
       (same, inl (inl (subst (IsUnrun f.holds f.lacks s.run) (sym h.0.1) (none_run f.holds f.lacks s.run w.ready k.ready h.0.0 h.0.2)), h.1))
   unserved old new failed e same (inr h) = (same, inr (inl (record { judged = h.judged; few = h.few; sown = are_sown h.judged h.runs; cut = h.cut })))
 
-  module _ (old new : Option (List ℕ)) (t : Tally) (js : List Judged) (told : IsTold w s (seeds_text (monitors_of s) s.invariants s.first js) old new t js) where
+  module _ (old new : Option (List ℕ)) (t : Tally) (js : List Judged) (told : IsTold w s (seeds_text s.json (monitors_of s) s.invariants s.first js) old new t js) where
     -- all is told, and a log is kept, where there is one to be
     pub served : (types : Table) (done : Status) → types ≡ w.ready.program.types → IsKeptIn f types (option_copied s.keep) (option_map logged t.shortest)
         → done ≡ counts_status t.counts.fault t.counts.refusals.items t.counts.broken → IsSeedsServed f s old new done

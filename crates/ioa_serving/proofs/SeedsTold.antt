@@ -28,15 +28,15 @@ module _ (w : Sown) (s : Seeds) (names : length w.specifications.items ≡ lengt
   counted_all = ap length tallied.0.refusals ∙ refusals_count (length w.specifications.items) js ∙ names
 
   abbrev line : List ℕ
-  line = counts_line (monitors_of s) s.invariants t.counts.done t.counts.fault t.counts.refusals.items t.counts.broken
+  line = counts_line s.json (monitors_of s) s.invariants t.counts.done t.counts.fault t.counts.refusals.items t.counts.broken
 
-  pub all_text : seed_lines (monitors_of s) s.first js ++ line ≡ seeds_text (monitors_of s) s.invariants s.first js
+  pub all_text : seed_lines s.json (monitors_of s) s.first js ++ line ≡ seeds_text s.json (monitors_of s) s.invariants s.first js
   all_text =
-      ap₂ (λ d f. seed_lines (monitors_of s) s.first js ++ counts_line (monitors_of s) s.invariants d f t.counts.refusals.items t.counts.broken) tallied.0.done tallied.0.fault
-      ∙ ap₂ (λ ns b. seed_lines (monitors_of s) s.first js ++ counts_line (monitors_of s) s.invariants (dones_among js) (faults_among js) ns b) refusals_same tallied.0.broken
+      ap₂ (λ d f. seed_lines s.json (monitors_of s) s.first js ++ counts_line s.json (monitors_of s) s.invariants d f t.counts.refusals.items t.counts.broken) tallied.0.done tallied.0.fault
+      ∙ ap₂ (λ ns b. seed_lines s.json (monitors_of s) s.first js ++ counts_line s.json (monitors_of s) s.invariants (dones_among js) (faults_among js) ns b) refusals_same tallied.0.broken
 
 module _ (w : Sown) (s : Seeds) (names : length w.specifications.items ≡ length (monitors_of s)) (old mid : Option (List ℕ)) (t : Tally) (js : List Judged)
-    (told : IsTold w s (seed_lines (monitors_of s) s.first js) old mid t js) where
+    (told : IsTold w s (seed_lines s.json (monitors_of s) s.first js) old mid t js) where
   -- the counts can be added up
   pub addable : t.counts.done + t.counts.fault < 2 ^ 128
   addable = omega (arith, told.tallied.0.done, told.tallied.0.fault, all_counted js, told.within)
@@ -45,16 +45,16 @@ module _ (w : Sown) (s : Seeds) (names : length w.specifications.items ≡ lengt
   few = omega (arith, told.count)
 
   abbrev counted : List ℕ
-  counted = counts_line (monitors_of s) s.invariants t.counts.done t.counts.fault t.counts.refusals.items t.counts.broken
+  counted = counts_line s.json (monitors_of s) s.invariants t.counts.done t.counts.fault t.counts.refusals.items t.counts.broken
 
   -- their line is told, too
-  pub told_with : (new : Option (List ℕ)) → Appends mid new counted → IsTold w s (seeds_text (monitors_of s) s.invariants s.first js) old new t js
+  pub told_with : (new : Option (List ℕ)) → Appends mid new counted → IsTold w s (seeds_text s.json (monitors_of s) s.invariants s.first js) old new t js
   told_with new line = record {
     count = told.count;
     runs = told.runs;
     tallied = told.tallied;
     within = told.within;
-    output = subst (Appends old new) (all_text w s names t js told.tallied) (Appends-trans old mid new (seed_lines (monitors_of s) s.first js) counted told.output line);
+    output = subst (Appends old new) (all_text w s names t js told.tallied) (Appends-trans old mid new (seed_lines s.json (monitors_of s) s.first js) counted told.output line);
   }
 
   -- memory was short for it
@@ -64,10 +64,10 @@ module _ (w : Sown) (s : Seeds) (names : length w.specifications.items ≡ lengt
   -- the device failed at it
   pub cut_in_counts : (failed : Type 0) (new : Option (List ℕ)) → failed → (n : ℕ) × Appends mid new (take n counted) → IsBegun w s failed old new (Failure.List LogErr.Io)
   cut_in_counts failed new f begun =
-      let b = begun_last old mid new (seed_lines (monitors_of s) s.first js) counted told.output begun in
+      let b = begun_last old mid new (seed_lines s.json (monitors_of s) s.first js) counted told.output begun in
       record {
         judged = js;
         few = few;
         runs = told.runs;
-        cut = inl (refl, f, (seeds_text (monitors_of s) s.invariants s.first js, b.0, inr (told.count, refl), subst (λ x. Appends old new (take b.0 x)) (all_text w s names t js told.tallied) b.1));
+        cut = inl (refl, f, (seeds_text s.json (monitors_of s) s.invariants s.first js, b.0, inr (told.count, refl), subst (λ x. Appends old new (take b.0 x)) (all_text w s names t js told.tallied) b.1));
       }

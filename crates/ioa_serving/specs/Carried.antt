@@ -18,22 +18,23 @@ use Rattle.ioa_run.specs.Resuming.{resumption}
 use Rattle.ioa_run.specs.declared.run_err.RunErr.{RunErr}
 use Rattle.ioa_serving.specs.Alone.{AreTurnsSince, IsRun, told_of, wants_of_run, written}
 use Rattle.ioa_serving.specs.Compiling.{IsCompiled}
-use Rattle.ioa_serving.specs.Headline.{Declares, IsFileOf, IsReplay, IsLogReplay, IsMonitoring}
+use Rattle.ioa_serving.specs.Headline.{Declares, IsFileOf, IsMonitoring}
 use Rattle.ioa_serving.specs.ListLogs.{IsListLog}
 use Rattle.ioa_serving.specs.LogLogs.{IsLogLog}
+use Rattle.ioa_serving.specs.Objects.{IsLogReplayAs, IsReplayAs}
 use Rattle.ioa_serving.specs.Pictures.{IsGraphed, IsLogChart}
 use Rattle.ioa_serving.specs.Resuming.{IsResumable}
 use Rattle.ioa_serving.specs.Subjects.{Subject, its_components, its_starts, of_table}
 
--- what a replay of a list by the object writes, a replay by the source's composition writes
+-- what a replay of a list by the object writes, as text or as objects, a replay by the source's composition writes
 abbrev pub ReplaysAsSource : Type 0
-ReplaysAsSource = (text object : List ℕ) (name of : Option Name) (bytes : List ℕ) (end : Ending) (before after : Option (List ℕ))
-    → IsCompiled text name object → IsReplay object of bytes end before after → IsReplay text name bytes end before after
+ReplaysAsSource = (json : Bool) (text object : List ℕ) (name of : Option Name) (bytes : List ℕ) (end : Ending) (before after : Option (List ℕ))
+    → IsCompiled text name object → IsReplayAs json object of bytes end before after → IsReplayAs json text name bytes end before after
 
 -- the same of a log
 abbrev pub ReplaysLogsAsSource : Type 0
-ReplaysLogsAsSource = (text object : List ℕ) (name of : Option Name) (bytes : List ℕ) (end : Ending) (before after : Option (List ℕ))
-    → IsCompiled text name object → IsLogReplay object of bytes end before after → IsLogReplay text name bytes end before after
+ReplaysLogsAsSource = (json : Bool) (text object : List ℕ) (name of : Option Name) (bytes : List ℕ) (end : Ending) (before after : Option (List ℕ))
+    → IsCompiled text name object → IsLogReplayAs json object of bytes end before after → IsLogReplayAs json text name bytes end before after
 
 -- the same of the log of a list's run
 abbrev pub LogsListsAsSource : Type 0

@@ -21,11 +21,13 @@ pub mod ListLogs
 pub mod LogCounts
 pub mod LogLogs
 pub mod Logs
+pub mod Objects
 pub mod Pacing
 pub mod Pictures
 pub mod Placing
 pub mod Printed
 pub mod Resuming
+pub mod Rows
 pub mod RunReports
 pub mod Running
 pub mod SeedRuns

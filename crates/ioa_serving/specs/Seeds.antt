@@ -1,9 +1,9 @@
--- Runs by many seeds: a line for each with its end, with what each specification answers to it that is asked, and with the invariant that it breaks; how many ended
--- so, how many each specification does not accept, and how many break an invariant; which log is kept; and why they are not all told.
+-- Runs by many seeds: a line for each, as text or as a JSON object, with its end, with what each specification answers to it that is asked, and with the invariant
+-- that it breaks; how many ended so, how many each specification does not accept, and how many break an invariant; which log is kept; and why they are not all told.
 use Rattle.std.specs.Prelude.{◌≡◌, ◌≤◌, ◌<◌, ◌⊎◌, ◌+◌, ◌-◌, ◌++◌, ◌∷◌, ◌==◌, ◌||◌, not, ℕ, suc, All, Bool, false, true, IfSome, List, [], None, Option, Some, codes, flat_map, if◌then◌else◌, is_some, length, replicate, take}
 use Rattle.std.specs.Fmt.{decimal}
 use Rattle.std.specs.Io.KnownBytes.{Appends, Keeps}
-use Rattle.std.specs.List.{AllZip, count_by, list_any, zip}
+use Rattle.std.specs.List.{AllZip, count_by, join_by, list_any, zip}
 use Rattle.std.specs.Option.{option_copied, option_map_or}
 use Rattle.ioa_value.specs.Actions.{Act, Name}
 use Rattle.ioa_value.specs.Table.{Table}
@@ -17,6 +17,7 @@ use Rattle.ioa_log.specs.LogTexts.{log_text}
 use Rattle.ioa_log.specs.Monitoring.{IsSeen}
 use Rattle.ioa_run.specs.declared.report.Report.{Report}
 use Rattle.ioa_run.specs.Alone.{NoMemory}
+use Rattle.ioa_watch.specs.Json.{ending_json}
 use Rattle.ioa_request.specs.Keys.{numbered_digits, numbered_key}
 use Rattle.ioa_request.specs.Pasted.{texts}
 use Rattle.ioa_request.specs.declared.seeds.Seeds.{Seeds}
@@ -27,6 +28,7 @@ use Rattle.ioa_serving.specs.declared.status.Status.{Status}
 use Rattle.ioa_serving.specs.Alone.{CameOf, IsUnrun}
 use Rattle.ioa_serving.specs.Devices.{Files}
 use Rattle.ioa_serving.specs.Headline.{IsFileOf}
+use Rattle.ioa_serving.specs.Json.{answer_json, broken_json}
 use Rattle.ioa_serving.specs.Logs.{answer_text, answer_to, broken_words}
 use Rattle.ioa_serving.specs.Placing.{log_mark}
 use Rattle.ioa_serving.specs.Subjects.{Subject, its_types, of_hosts, of_table}
@@ -54,14 +56,35 @@ inspected_behind (Some None) = codes "; invariants: ok"
 inspected_behind (Some (Some b)) = codes "; " ++ broken_words b
 
 -- a line with the digits of the seed of this number, to be pasted behind `--seed`, the end of its run, the answers of these specifications, and the invariant
-abbrev pub seed_line : List Name → ℕ → Judged → List ℕ
-seed_line names n j =
+abbrev pub seed_words : List Name → ℕ → Judged → List ℕ
+seed_words names n j =
     numbered_digits n ++ (codes " end: " ++ (ending_text j.log.ending ++ (answers_behind names j.answers ++ (inspected_behind j.inspected ++ 10 ∷ []))))
 
+-- the name of a specification and its answer, as an object in a row
+abbrev pub verdict_object : Name × Option Ending → List ℕ
+verdict_object p = codes "{\"specification\":\"" ++ (p.0 ++ (codes "\",\"verdict\":" ++ (answer_json p.1 ++ codes "}")))
+
+-- behind the row, where invariants are asked for, that none is broken, or the first that is
+abbrev pub inspected_json : Option (Option Broken) → List ℕ
+inspected_json None = []
+inspected_json (Some None) = codes ",\"invariants\":{\"verdict\":\"ok\"}"
+inspected_json (Some (Some b)) = codes ",\"invariants\":{\"verdict\":" ++ (broken_json b ++ codes "}")
+
+-- the same as an object
+abbrev pub seed_object : List Name → ℕ → Judged → List ℕ
+seed_object names n j =
+    codes "{\"seed\":\"" ++ (numbered_digits n ++ (codes "\",\"end\":" ++ (ending_json j.log.ending ++ (codes ",\"verdicts\":["
+    ++ (join_by verdict_object (codes ",") (zip names j.answers) ++ (codes "]" ++ (inspected_json j.inspected ++ codes "}\n")))))))
+
+-- the one or the other
+abbrev pub seed_line : Bool → List Name → ℕ → Judged → List ℕ
+seed_line false names n j = seed_words names n j
+seed_line true names n j = seed_object names n j
+
 -- of runs by seeds with numbers in a row, from this one on
-abbrev pub seed_lines : List Name → ℕ → List Judged → List ℕ
-seed_lines names n [] = []
-seed_lines names n (j ∷ js) = seed_line names n j ++ seed_lines names (suc n) js
+abbrev pub seed_lines : Bool → List Name → ℕ → List Judged → List ℕ
+seed_lines json names n [] = []
+seed_lines json names n (j ∷ js) = seed_line json names n j ++ seed_lines json names (suc n) js
 
 -- how many ended by a fault, and how many did not
 abbrev pub faults_among : List Judged → ℕ
@@ -100,14 +123,34 @@ abbrev pub broken_behind : Bool → ℕ → List ℕ
 broken_behind asked n = if asked then codes "; invariants: broken " ++ decimal n else []
 
 -- a line with these counts
-abbrev pub counts_line : List Name → Bool → ℕ → ℕ → List ℕ → ℕ → List ℕ
-counts_line names asked dones faults refusals broken =
+abbrev pub counts_words : List Name → Bool → ℕ → ℕ → List ℕ → ℕ → List ℕ
+counts_words names asked dones faults refusals broken =
     codes "seeds " ++ (decimal (dones + faults) ++ (codes "; done " ++ (decimal dones ++ (codes "; fault " ++ (decimal faults
     ++ (flat_map refusals_behind (zip names refusals) ++ (broken_behind asked broken ++ 10 ∷ [])))))))
 
+-- the name of a specification and how many runs it does not accept, as an object in a row
+abbrev pub refusals_object : Name × ℕ → List ℕ
+refusals_object p = codes "{\"specification\":\"" ++ (p.0 ++ (codes "\",\"not accepted\":" ++ (decimal p.1 ++ codes "}")))
+
+-- and behind the row how many break an invariant
+abbrev pub broken_count : Bool → ℕ → List ℕ
+broken_count asked n = if asked then codes ",\"invariants\":{\"broken\":" ++ (decimal n ++ codes "}") else []
+
+-- the same as an object
+abbrev pub counts_object : List Name → Bool → ℕ → ℕ → List ℕ → ℕ → List ℕ
+counts_object names asked dones faults refusals broken =
+    codes "{\"seeds\":" ++ (decimal (dones + faults) ++ (codes ",\"done\":" ++ (decimal dones ++ (codes ",\"fault\":" ++ (decimal faults ++ (codes ",\"verdicts\":["
+    ++ (join_by refusals_object (codes ",") (zip names refusals) ++ (codes "]" ++ (broken_count asked broken ++ codes "}\n")))))))))
+
+-- the one or the other
+abbrev pub counts_line : Bool → List Name → Bool → ℕ → ℕ → List ℕ → ℕ → List ℕ
+counts_line false names asked dones faults refusals broken = counts_words names asked dones faults refusals broken
+counts_line true names asked dones faults refusals broken = counts_object names asked dones faults refusals broken
+
 -- all of it
-abbrev pub seeds_text : List Name → Bool → ℕ → List Judged → List ℕ
-seeds_text names asked n js = seed_lines names n js ++ counts_line names asked (dones_among js) (faults_among js) (refusals_among (length names) js) (broken_among js)
+abbrev pub seeds_text : Bool → List Name → Bool → ℕ → List Judged → List ℕ
+seeds_text json names asked n js =
+    seed_lines json names n js ++ counts_line json names asked (dones_among js) (faults_among js) (refusals_among (length names) js) (broken_among js)
 
 -- that of a run that is not accepted, or breaks an invariant, or else of one that ended by a fault; where there is neither, all is done
 abbrev pub counts_status : ℕ → List ℕ → ℕ → Status
@@ -207,7 +250,7 @@ pub record IsSeedsServed (f : Files) (s : Seeds) (before after : Option (List �
   pub judged : List Judged
   pub count : length judged ≡ seeds_count s
   pub sown : AreSown f s judged
-  pub output : Appends before after (seeds_text (monitors_of s) s.invariants s.first judged)
+  pub output : Appends before after (seeds_text s.json (monitors_of s) s.invariants s.first judged)
   pub shortest : Option Logged
   pub is_shortest : IsShortest judged shortest
   pub keeps : IsKeptIn f (its_types sown.subject) (option_copied s.keep) shortest
@@ -216,14 +259,14 @@ pub record IsSeedsServed (f : Files) (s : Seeds) (before after : Option (List �
 -- the lines of these runs; or, where they are all that there are, with their counts
 abbrev pub IsSeedsText : Seeds → List Judged → List ℕ → Type 0
 IsSeedsText s js text =
-    (text ≡ seed_lines (monitors_of s) s.first js) ⊎ ((length js ≡ seeds_count s) × (text ≡ seeds_text (monitors_of s) s.invariants s.first js))
+    (text ≡ seed_lines s.json (monitors_of s) s.first js) ⊎ ((length js ≡ seeds_count s) × (text ≡ seeds_text s.json (monitors_of s) s.invariants s.first js))
 
 -- why they are not all told: the device failed, which has taken a beginning of their lines; or memory was short behind them, or refused to a worker
 -- of the next run
 abbrev pub IsSeedsCut : Seeds → List Judged → Type 0 → Option (List ℕ) → Option (List ℕ) → Failure → Type 0
 IsSeedsCut s js failed before after e =
     ((e ≡ Failure.List LogErr.Io) × failed × ((text : List ℕ) × (k : ℕ) × IsSeedsText s js text × Appends before after (take k text)))
-    ⊎ (((e ≡ Failure.List LogErr.OutOfMemory) ⊎ (e ≡ Failure.OutOfMemory)) × Appends before after (seed_lines (monitors_of s) s.first js))
+    ⊎ (((e ≡ Failure.List LogErr.OutOfMemory) ⊎ (e ≡ Failure.OutOfMemory)) × Appends before after (seed_lines s.json (monitors_of s) s.first js))
 
 -- the first runs are told, or some of them
 pub record AreSeedsCut (f : Files) (s : Seeds) (failed : Type 0) (before after : Option (List ℕ)) (e : Failure) : Type 0 where
@@ -237,7 +280,7 @@ pub record IsUnkept (f : Files) (s : Seeds) (before after : Option (List ℕ)) (
   pub judged : List Judged
   pub count : length judged ≡ seeds_count s
   pub sown : AreSown f s judged
-  pub output : Appends before after (seeds_text (monitors_of s) s.invariants s.first judged)
+  pub output : Appends before after (seeds_text s.json (monitors_of s) s.invariants s.first judged)
   pub shortest : Logged
   pub is_shortest : IsShortestRefused judged shortest
   pub unkeepable : IsUnkeepable (f.blocks log_mark) (option_copied s.keep) e

@@ -17,16 +17,17 @@ use Rattle.ioa_serving.specs.Compiling.{IsMade, IsUnmade}
 use Rattle.ioa_serving.specs.Devices.{Change, Failed, Files, Untouched, Wrote}
 use Rattle.ioa_serving.specs.Dumps.{IsDumped, IsUndumped}
 use Rattle.ioa_serving.specs.Explaining.{IsExplained, IsUnexplained}
-use Rattle.ioa_serving.specs.Headline.{IsReplay, IsLogReplay, IsInvariantReplay, IsMonitoring, IsLogStatesReplay, IsStatesReplay}
+use Rattle.ioa_serving.specs.Headline.{IsMonitoring, IsLogStatesReplay, IsStatesReplay}
 use Rattle.ioa_serving.specs.Libraries.{IsUnlisted}
 use Rattle.ioa_serving.specs.ListLogs.{BeginsListLogOf, IsListLog}
 use Rattle.ioa_serving.specs.LogLogs.{BeginsLogLogOf, IsLogLog}
 use Rattle.ioa_serving.specs.Logs.{Found}
+use Rattle.ioa_serving.specs.Objects.{BeginsFindingAs, BeginsLogReplayAs, BeginsReplayAs, IsInvariantReplayAs, IsLogReplayAs, IsReplayAs}
 use Rattle.ioa_serving.specs.RunReports.{wants_text}
 use Rattle.ioa_serving.specs.Pictures.{BeginsChartOf, IsGraphed, IsLogChart, IsUngraphed, selected}
 use Rattle.ioa_serving.specs.Alone.{IsRunServed, IsRunUnserved}
 use Rattle.ioa_serving.specs.Seeds.{IsSeedsServed, IsSeedsUnserved}
-use Rattle.ioa_serving.specs.Failing.{IsFailure, IsInvariantFailure, IsLogReplayFailure, IsMonitorFailure, IsStatesFailure, IsUnwritten, BeginsReplayOf, BeginsLogOf, BeginsLogStatesOf, BeginsFoundOf, BeginsMonitorOf, BeginsStatesOf}
+use Rattle.ioa_serving.specs.Failing.{IsFailure, IsInvariantFailure, IsLogReplayFailure, IsMonitorFailure, IsStatesFailure, IsUnwritten, BeginsLogStatesOf, BeginsMonitorOf, BeginsStatesOf}
 use Rattle.ioa_serving.specs.Statuses.{answer_status, ending_status, found_status}
 use Rattle.ioa_serving.specs.Strict.{BeginsStrictOf, IsStrictMonitoring, StrictAnswer, strict_status}
 use Rattle.ioa_serving.specs.Watching.{IsWatchFailure, IsWatchServed}
@@ -54,26 +55,26 @@ run_failure (RunErr.BadLog i) = Failure.BadLog i
 run_failure RunErr.EndedByFault = Failure.EndedByFault
 run_failure RunErr.OutOfMemory = Failure.OutOfMemory
 
--- the file may hold a text such that the list or the log was replayed, or monitored, or the log of the list's run was written, or the log again, in the
+-- the file may hold a text such that the list or the log was replayed, in either form, or monitored, or the log of the list's run was written, or the log again, in the
 -- composition that is asked for, the last one where none is, with or without the states in which it ends; or the log was monitored strictly; or the stream was watched by those that are asked for; or the log or the composition was drawn; or that passed the check; or its object was put
 -- in a file; or it was dumped; or a composition was run, or so it was by many seeds, and a log of theirs was kept; or the topic was explained; or the library's text was written. Reports of a run are left to be told, and the
 -- workers to which memory was refused; or what the specifications of a watch counted
 abbrev pub IsServed : Files → Request → Change → Change → Option (List ℕ) → List ℕ → Status → Type 0
-IsServed f (Request.Replay file composition) input output told wants status =
+IsServed f (Request.Replay file composition json) input output told wants status =
     (text : List ℕ) × f.holds file.now text
-    × ((end : Ending) × IfSome input.before.bytes (λ xs. IsReplay text (option_copied composition) xs end output.before.bytes output.after.bytes) × (status ≡ ending_status end)) × (told ≡ None)
+    × ((end : Ending) × IfSome input.before.bytes (λ xs. IsReplayAs json text (option_copied composition) xs end output.before.bytes output.after.bytes) × (status ≡ ending_status end)) × (told ≡ None)
 IsServed f (Request.ReplayStates file composition shown) input output told wants status =
     (text : List ℕ) × f.holds file.now text
     × ((end : Ending) × IfSome input.before.bytes (λ xs. IsStatesReplay text (option_copied composition) shown xs end output.before.bytes output.after.bytes) × (status ≡ ending_status end)) × (told ≡ None)
-IsServed f (Request.ReplayLog file composition) input output told wants status =
+IsServed f (Request.ReplayLog file composition json) input output told wants status =
     (text : List ℕ) × f.holds file.now text
-    × ((end : Ending) × IfSome input.before.bytes (λ xs. IsLogReplay text (option_copied composition) xs end output.before.bytes output.after.bytes) × (status ≡ ending_status end)) × (told ≡ None)
+    × ((end : Ending) × IfSome input.before.bytes (λ xs. IsLogReplayAs json text (option_copied composition) xs end output.before.bytes output.after.bytes) × (status ≡ ending_status end)) × (told ≡ None)
 IsServed f (Request.ReplayLogStates file composition shown) input output told wants status =
     (text : List ℕ) × f.holds file.now text
     × ((end : Ending) × IfSome input.before.bytes (λ xs. IsLogStatesReplay text (option_copied composition) shown xs end output.before.bytes output.after.bytes) × (status ≡ ending_status end)) × (told ≡ None)
-IsServed f (Request.ReplayInvariants file composition) input output told wants status =
+IsServed f (Request.ReplayInvariants file composition json) input output told wants status =
     (text : List ℕ) × f.holds file.now text
-    × ((found : Found) × IfSome input.before.bytes (λ xs. IsInvariantReplay text (option_copied composition) xs found output.before.bytes output.after.bytes) × (status ≡ found_status found)) × (told ≡ None)
+    × ((found : Found) × IfSome input.before.bytes (λ xs. IsInvariantReplayAs json text (option_copied composition) xs found output.before.bytes output.after.bytes) × (status ≡ found_status found)) × (told ≡ None)
 IsServed f (Request.Log file composition) input output told wants status =
     (text : List ℕ) × f.holds file.now text
     × ((end : Ending) × IfSome input.before.bytes (λ xs. IsListLog text (option_copied composition) xs end output.before.bytes output.after.bytes) × (status ≡ ending_status end)) × (told ≡ None)
@@ -116,26 +117,26 @@ IsUnread lacks output e = (((e ≡ Failure.Io) × lacks) ⊎ (e ≡ Failure.OutO
 -- made; or nothing is run, or the run's text, or that of runs by many seeds, is not all written; or the topic is not explained; or the library's text is not written. The reader of standard input and the writer failed
 -- where these say so.
 abbrev pub IsUnserved : Files → Request → Change → Change → List ℕ → Failure → Type 0
-IsUnserved f (Request.Replay file composition) input output wants e =
+IsUnserved f (Request.Replay file composition json) input output wants e =
     IsUnread (f.lacks file.now) output e
     ⊎ ((text : List ℕ) × f.holds file.now text × IsFailure text (option_copied composition) input.before.bytes (Failed input ⊎ Failed output) e
-    × IsUnwritten (BeginsReplayOf text (option_copied composition) input.before.bytes) output.before.bytes output.after.bytes e)
+    × IsUnwritten (BeginsReplayAs json text (option_copied composition) input.before.bytes) output.before.bytes output.after.bytes e)
 IsUnserved f (Request.ReplayStates file composition shown) input output wants e =
     IsUnread (f.lacks file.now) output e
     ⊎ ((text : List ℕ) × f.holds file.now text × IsStatesFailure text (option_copied composition) input.before.bytes (Failed input ⊎ Failed output) e
     × IsUnwritten (BeginsStatesOf text (option_copied composition) shown input.before.bytes) output.before.bytes output.after.bytes e)
-IsUnserved f (Request.ReplayLog file composition) input output wants e =
+IsUnserved f (Request.ReplayLog file composition json) input output wants e =
     IsUnread (f.lacks file.now) output e
     ⊎ ((text : List ℕ) × f.holds file.now text × IsLogReplayFailure text (option_copied composition) input.before.bytes (Failed input ⊎ Failed output) e
-    × IsUnwritten (BeginsLogOf text (option_copied composition) input.before.bytes) output.before.bytes output.after.bytes e)
+    × IsUnwritten (BeginsLogReplayAs json text (option_copied composition) input.before.bytes) output.before.bytes output.after.bytes e)
 IsUnserved f (Request.ReplayLogStates file composition shown) input output wants e =
     IsUnread (f.lacks file.now) output e
     ⊎ ((text : List ℕ) × f.holds file.now text × IsInvariantFailure text (option_copied composition) input.before.bytes (Failed input ⊎ Failed output) e
     × IsUnwritten (BeginsLogStatesOf text (option_copied composition) shown input.before.bytes) output.before.bytes output.after.bytes e)
-IsUnserved f (Request.ReplayInvariants file composition) input output wants e =
+IsUnserved f (Request.ReplayInvariants file composition json) input output wants e =
     IsUnread (f.lacks file.now) output e
     ⊎ ((text : List ℕ) × f.holds file.now text × IsInvariantFailure text (option_copied composition) input.before.bytes (Failed input ⊎ Failed output) e
-    × IsUnwritten (BeginsFoundOf text (option_copied composition) input.before.bytes) output.before.bytes output.after.bytes e)
+    × IsUnwritten (BeginsFindingAs json text (option_copied composition) input.before.bytes) output.before.bytes output.after.bytes e)
 IsUnserved f (Request.Log file composition) input output wants e =
     IsUnread (f.lacks file.now) output e
     ⊎ ((text : List ℕ) × f.holds file.now text × IsFailure text (option_copied composition) input.before.bytes (Failed input ⊎ Failed output) e
@@ -182,11 +183,11 @@ IsUnserved f Request.Library input output wants e = IsUnlisted (Failed output) o
 
 -- a list, a log or a stream is to be read
 abbrev pub IsReading : Request → Type 0
-IsReading (Request.Replay file composition) = Unit {0}
+IsReading (Request.Replay file composition json) = Unit {0}
 IsReading (Request.ReplayStates file composition shown) = Unit {0}
-IsReading (Request.ReplayLog file composition) = Unit {0}
+IsReading (Request.ReplayLog file composition json) = Unit {0}
 IsReading (Request.ReplayLogStates file composition shown) = Unit {0}
-IsReading (Request.ReplayInvariants file composition) = Unit {0}
+IsReading (Request.ReplayInvariants file composition json) = Unit {0}
 IsReading (Request.Log file composition) = Unit {0}
 IsReading (Request.LogByLog file composition) = Unit {0}
 IsReading (Request.Monitor file composition) = Unit {0}
@@ -205,11 +206,11 @@ IsReading Request.Library = ⊥
 
 -- there is to be a run
 abbrev pub IsRunning : Request → Type 0
-IsRunning (Request.Replay file composition) = ⊥
+IsRunning (Request.Replay file composition json) = ⊥
 IsRunning (Request.ReplayStates file composition shown) = ⊥
-IsRunning (Request.ReplayLog file composition) = ⊥
+IsRunning (Request.ReplayLog file composition json) = ⊥
 IsRunning (Request.ReplayLogStates file composition shown) = ⊥
-IsRunning (Request.ReplayInvariants file composition) = ⊥
+IsRunning (Request.ReplayInvariants file composition json) = ⊥
 IsRunning (Request.Log file composition) = ⊥
 IsRunning (Request.LogByLog file composition) = ⊥
 IsRunning (Request.Monitor file composition) = ⊥
@@ -228,11 +229,11 @@ IsRunning Request.Library = ⊥
 
 -- a file is to be written
 abbrev pub IsSaving : Request → Type 0
-IsSaving (Request.Replay file composition) = ⊥
+IsSaving (Request.Replay file composition json) = ⊥
 IsSaving (Request.ReplayStates file composition shown) = ⊥
-IsSaving (Request.ReplayLog file composition) = ⊥
+IsSaving (Request.ReplayLog file composition json) = ⊥
 IsSaving (Request.ReplayLogStates file composition shown) = ⊥
-IsSaving (Request.ReplayInvariants file composition) = ⊥
+IsSaving (Request.ReplayInvariants file composition json) = ⊥
 IsSaving (Request.Log file composition) = ⊥
 IsSaving (Request.LogByLog file composition) = ⊥
 IsSaving (Request.Monitor file composition) = ⊥

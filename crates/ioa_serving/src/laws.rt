@@ -6,6 +6,7 @@ ghost use Rattle.ioa_compile.specs.Programs.{Prog};
 ghost use Rattle.ioa_serving.specs.Carried.{ChartsAsSource, GraphsAsSource, HistoriesAsSource, LogsListsAsSource, LogsLogsAsSource, MonitorsAsSource, OneComposition, RefusesAsSource, ReplaysAsSource, ReplaysLogsAsSource, RunsAsSource, TakesTurnsAsSource};
 ghost use Rattle.ioa_serving.specs.Cuts.{CutsLists, CutsLogs, KeepsShortLogs};
 ghost use Rattle.ioa_serving.specs.Delivering.{HistoriesDeliver, ObjectsDeliver};
+ghost use Rattle.ioa_serving.specs.Objects.{ObjectsTellActions};
 ghost use Rattle.ioa_serving.specs.RunReports.{SilenceMeans};
 ghost use Rattle.ioa_serving.specs.Strict.{AgreesWithMonitor};
 
@@ -63,4 +64,10 @@ pub fn silent_runs_lack_no_memory()
 /// such a name.
 pub fn strict_answers_agree()
     ensures { (p : Prog) (acts : List Act) → AgreesWithMonitor p acts }
+{}
+
+/// A replay that is told in JSON objects tells what its text does: an object for each action of the trace, with the action as it is written, and then one with the
+/// end.
+pub fn objects_tell_actions()
+    ensures { ObjectsTellActions }
 {}

@@ -22,6 +22,7 @@ mod placing;
 // Lists and logs.
 mod at_hand;
 mod cuts;
+mod invariant_objects;
 mod invariant_replay;
 mod json;
 mod judged;
@@ -31,7 +32,10 @@ mod log_counts;
 mod log_log;
 mod log_replay;
 mod monitor;
+mod objects;
 mod replay;
+mod replay_forms;
+mod replay_objects;
 mod specifications;
 mod states_replay;
 mod stream_counts;
@@ -49,6 +53,7 @@ mod script;
 mod seed;
 mod seed_counts;
 mod seed_lines;
+mod seed_objects;
 mod seed_tally;
 mod seeds;
 mod sown;
@@ -78,11 +83,13 @@ pub use cuts::cut_text;
 pub use dump::dump_object;
 pub use failure::Failure;
 pub use groups::groups_of;
+pub use invariant_objects::replay_invariants_objects_text;
 pub use invariant_replay::{Finding, replay_invariants_text};
 pub use kept_log::{LOG_MARK, log_bytes};
 pub use laws::{
     cuts_are_beginnings, objects_do_as_their_sources, objects_run_as_their_sources,
-    one_composition, silent_runs_lack_no_memory, stenning_delivers, strict_answers_agree,
+    objects_tell_actions, one_composition, silent_runs_lack_no_memory, stenning_delivers,
+    strict_answers_agree,
 };
 pub use library::write_library;
 pub use list_log::log_list_text;
@@ -96,6 +103,8 @@ pub use pace::{Arrival, Pace};
 pub use placing::gives_way;
 pub use progress::Progress;
 pub use replay::replay_text;
+pub use replay_forms::{replay_in_form, replay_invariants_in_form, replay_log_in_form};
+pub use replay_objects::{replay_log_objects_text, replay_objects_text};
 pub use reports::send_wants;
 pub use run::{Ran, run_file};
 pub use seeds::run_seeds_file;

@@ -8,10 +8,12 @@ ghost use Rattle.ioa_request.specs.Pasted.{texts};
 ghost use Rattle.ioa_serving.specs.SeedRuns.{judged_of};
 ghost use Rattle.ioa_log.specs.Breaking.{broken_of};
 ghost use Rattle.ioa_serving.specs.Logs.{broken_words};
+ghost use Rattle.ioa_serving.specs.Seeds as spec;
 ghost use Rattle.ioa_serving.specs.Seeds.{answer_behind, answers_behind, broken_behind, counts_line, inspected_behind, refusals_behind, seed_line};
 
 use crate::judged::JudgedRun;
 use crate::seed_counts::Counts;
+use crate::seed_objects::{counts_object, seed_object};
 use ioa_log::Broken;
 use ioa_request::numbered_digits;
 use ioa_system::End;
@@ -19,15 +21,33 @@ use ioa_value::OutOfMemory;
 use std::alloc::{AllocError, Global};
 use std::fmt::Write;
 
-/// The line of the run by the seed of this number, with the answers of the specifications of these names, and the invariant that is broken.
+/// The line of the run by the seed of this number, as a JSON object or not, with the answers of the specifications of these names, and the invariant that is
+/// broken.
 pub fn seed_text(
+    alloc: Global,
+    json: bool,
+    names: &[&str],
+    number: u64,
+    judged: &JudgedRun,
+) -> Result<String, OutOfMemory>
+    requires { length judged.now.answers.items ≡ length names.now }
+    ensures { IfOk result (λ text. string_bytes text ≡ seed_line json (texts names.now) number (judged_of judged.now)) }
+{
+    if json {
+        return seed_object(alloc, names, number, judged);
+    }
+    seed_words(alloc, names, number, judged)
+}
+
+/// The same in words.
+fn seed_words(
     alloc: Global,
     names: &[&str],
     number: u64,
     judged: &JudgedRun,
 ) -> Result<String, OutOfMemory>
     requires { length judged.now.answers.items ≡ length names.now }
-    ensures { IfOk result (λ text. string_bytes text ≡ seed_line (texts names.now) number (judged_of judged.now)) }
+    ensures { IfOk result (λ text. string_bytes text ≡ spec.seed_words (texts names.now) number (judged_of judged.now)) }
 {
     let digits = numbered_digits(alloc, number)?;
     let end = judged.log.end.end();
@@ -88,8 +108,26 @@ fn push_answer(text: &mut String, name: &str, answer: Option<End>) -> Result<(),
     Ok(())
 }
 
-/// The line with the counts, for specifications of these names, and with that of broken invariants, where these are asked for.
+/// The line with the counts, as a JSON object or not, for specifications of these names, and with that of broken invariants, where these are asked for.
 pub fn counts_text(
+    alloc: Global,
+    json: bool,
+    names: &[&str],
+    invariants: bool,
+    counts: &Counts,
+) -> Result<String, OutOfMemory>
+    requires sums { counts.now.done + counts.now.fault < 2 ^ 128 }
+    requires counted { length counts.now.refusals.items ≡ length names.now }
+    ensures { IfOk result (λ text. string_bytes text ≡ counts_line json (texts names.now) invariants counts.now.done counts.now.fault counts.now.refusals.items counts.now.broken) }
+{
+    if json {
+        return counts_object(alloc, names, invariants, counts);
+    }
+    counts_words(alloc, names, invariants, counts)
+}
+
+/// The same in words.
+fn counts_words(
     alloc: Global,
     names: &[&str],
     invariants: bool,
@@ -97,7 +135,7 @@ pub fn counts_text(
 ) -> Result<String, OutOfMemory>
     requires sums { counts.now.done + counts.now.fault < 2 ^ 128 }
     requires counted { length counts.now.refusals.items ≡ length names.now }
-    ensures { IfOk result (λ text. string_bytes text ≡ counts_line (texts names.now) invariants counts.now.done counts.now.fault counts.now.refusals.items counts.now.broken) }
+    ensures { IfOk result (λ text. string_bytes text ≡ spec.counts_words (texts names.now) invariants counts.now.done counts.now.fault counts.now.refusals.items counts.now.broken) }
 {
     let refusals = refusals_text(alloc, names, &counts.refusals)?;
     let broken = broken_count_text(alloc, invariants, counts.broken)?;

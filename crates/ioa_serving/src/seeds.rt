@@ -30,10 +30,10 @@ use ioa_request::{Seeds, numbered_key};
 use ioa_run::{Report, RunErr, Why, resume_alone};
 use std::alloc::Global;
 
-/// Runs a composition of a source, or an object, on one thread by each seed of these numbers, and writes a line for each, with the digits of the seed,
-/// the run's end, the answer of each specification that is asked, and the first invariant that is broken, where these are asked for, and then one with their
-/// counts. The file is read and checked once, and a line is written before the next run begins. Where a file is named for it, the shortest log that is refused is put there, the first of
-/// equal length; no more than that log and the last run's are in memory.
+/// Runs a composition of a source, or an object, on one thread by each seed of these numbers, and writes a line for each, as text or as a JSON object, with the
+/// digits of the seed, the run's end, the answer of each specification that is asked, and the first invariant that is broken, where these are asked for, and then
+/// one with their counts. The file is read and checked once, and a line is written before the next run begins. Where a file is named for it, the shortest log that
+/// is refused is put there, the first of equal length; no more than that log and the last run's are in memory.
 ///
 /// Each line is that of the single run with this seed, where memory is refused to none of its workers, and its answers are those of the monitors of its log,
 /// and of the source's invariants in its states.
@@ -73,14 +73,20 @@ fn tell_all<W: OutputDevice>(
     output: &mut W,
 ) -> Result<Tally, Failure>
     requires { length sown.now.specifications.items ≡ length seeds.now.monitors.now }
-    ensures told { IfOk result (λ t. (js : List Judged) × IsTold sown.now seeds.now (seeds_text (monitors_of seeds.now) seeds.now.invariants seeds.now.first js) (W.contents output.old) (W.contents output.new) t js) }
+    ensures told { IfOk result (λ t. (js : List Judged) × IsTold sown.now seeds.now (seeds_text seeds.now.json (monitors_of seeds.now) seeds.now.invariants seeds.now.first js) (W.contents output.old) (W.contents output.new) t js) }
     ensures refused { IfErr result (λ e. IsNoneRun sown.now seeds.now.run.turns (W.contents output.old) (W.contents output.new) e
         ⊎ IsBegun sown.now seeds.now (HasFailed (W.failure_count output.old) (W.failure_count output.new)) (W.contents output.old) (W.contents output.new) e) }
     ensures passed { (IsErrOf result (Failure.List LogErr.Io) → ⊥) → W.failure_count output.new ≡ W.failure_count output.old }
     ensures once { FailedOnceAtMost (W.failure_count output.old) (W.failure_count output.new) }
 {
     let tally = tell_runs(alloc, seeds, sown, output)?;
-    let line = counts_text(alloc, seeds.monitors, seeds.invariants, &tally.counts)?;
+    let line = counts_text(
+        alloc,
+        seeds.json,
+        seeds.monitors,
+        seeds.invariants,
+        &tally.counts,
+    )?;
     send_all(output, line.as_bytes())?;
     Ok(tally)
 }
@@ -93,7 +99,7 @@ fn tell_runs<W: OutputDevice>(
     output: &mut W,
 ) -> Result<Tally, Failure>
     requires { length sown.now.specifications.items ≡ length seeds.now.monitors.now }
-    ensures told { IfOk result (λ t. (js : List Judged) × IsTold sown.now seeds.now (seed_lines (monitors_of seeds.now) seeds.now.first js) (W.contents output.old) (W.contents output.new) t js) }
+    ensures told { IfOk result (λ t. (js : List Judged) × IsTold sown.now seeds.now (seed_lines seeds.now.json (monitors_of seeds.now) seeds.now.first js) (W.contents output.old) (W.contents output.new) t js) }
     ensures refused { IfErr result (λ e. IsNoneRun sown.now seeds.now.run.turns (W.contents output.old) (W.contents output.new) e
         ⊎ IsBegun sown.now seeds.now (HasFailed (W.failure_count output.old) (W.failure_count output.new)) (W.contents output.old) (W.contents output.new) e) }
     ensures passed { (IsErrOf result (Failure.List LogErr.Io) → ⊥) → W.failure_count output.new ≡ W.failure_count output.old }
@@ -102,7 +108,7 @@ fn tell_runs<W: OutputDevice>(
     let mut tally = tally_before(alloc, sown)?;
     for number in seeds.first..=seeds.last {
         let judged = judge_seed(alloc, sown, seeds.run.turns, number)?;
-        tell_run(alloc, seeds.monitors, number, &judged, output)?;
+        tell_run(alloc, seeds.json, seeds.monitors, number, &judged, output)?;
         tally.add(judged);
     }
     Ok(tally)
@@ -168,20 +174,21 @@ fn has_memory(reports: &[Report]) -> bool
 /// Writes the line of the run by the seed of this number.
 fn tell_run<W: OutputDevice>(
     alloc: Global,
+    json: bool,
     names: &[&str],
     number: u64,
     judged: &JudgedRun,
     output: &mut W,
 ) -> Result<(), LogErr>
     requires { length judged.now.answers.items ≡ length names.now }
-    ensures ok { OnOk result (Appends (W.contents output.old) (W.contents output.new) (seed_line (texts names.now) number (judged_of judged.now))) }
+    ensures ok { OnOk result (Appends (W.contents output.old) (W.contents output.new) (seed_line json (texts names.now) number (judged_of judged.now))) }
     ensures io { IsErrOf result LogErr.Io → HasFailed (W.failure_count output.old) (W.failure_count output.new) }
     ensures passed { (IsErrOf result LogErr.Io → ⊥) → W.failure_count output.new ≡ W.failure_count output.old }
     ensures once { FailedOnceAtMost (W.failure_count output.old) (W.failure_count output.new) }
-    ensures begun { IsErrOf result LogErr.Io → (k : ℕ) × Appends (W.contents output.old) (W.contents output.new) (take k (seed_line (texts names.now) number (judged_of judged.now))) }
+    ensures begun { IsErrOf result LogErr.Io → (k : ℕ) × Appends (W.contents output.old) (W.contents output.new) (take k (seed_line json (texts names.now) number (judged_of judged.now))) }
     ensures memory { IsErrOf result LogErr.OutOfMemory → Keeps (W.contents output.old) (W.contents output.new) }
     ensures only { IfErr result (λ e. (e ≡ LogErr.Io) ⊎ (e ≡ LogErr.OutOfMemory)) }
 {
-    let line = seed_text(alloc, names, number, judged)?;
+    let line = seed_text(alloc, json, names, number, judged)?;
     send_all(output, line.as_bytes())
 }

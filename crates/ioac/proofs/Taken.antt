@@ -26,11 +26,11 @@ not_performed found name cut is other e =
 -- what takes one reads standard input
 cut_reads : (rows : Option (Text × List Row)) (cut : Cut) (asked : Request) → cut_of rows ≡ Some cut → IsAskedBy rows asked → IsReading asked
 cut_reads None cut asked e h = absurd h
-cut_reads (Some found) cut (Request.Replay file composition) e h = tt
+cut_reads (Some found) cut (Request.Replay file composition json) e h = tt
 cut_reads (Some found) cut (Request.ReplayStates file composition shown) e h = tt
-cut_reads (Some found) cut (Request.ReplayLog file composition) e h = tt
+cut_reads (Some found) cut (Request.ReplayLog file composition json) e h = tt
 cut_reads (Some found) cut (Request.ReplayLogStates file composition shown) e h = tt
-cut_reads (Some found) cut (Request.ReplayInvariants file composition) e h = tt
+cut_reads (Some found) cut (Request.ReplayInvariants file composition json) e h = tt
 cut_reads (Some found) cut (Request.Log file composition) e h = tt
 cut_reads (Some found) cut (Request.LogByLog file composition) e h = tt
 cut_reads (Some found) cut (Request.Monitor file composition) e h = tt

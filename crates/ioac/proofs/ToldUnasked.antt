@@ -3,7 +3,7 @@ use Rattle.std.proofs.Common.{◌≡◌, Bool, List, Option, Some, None, if◌th
 use Rattle.std.specs.Str.{bytes_eq}
 use Rattle.clap.specs.Words.{Row, Text, first_of, first_value, found_of, rows_of, subcommand_name_of, subcommand_rows_of}
 use Rattle.clap.specs.declared.parser.matches.ArgMatches.{ArgMatches}
-use Rattle.ioac.specs.Telling.{asks_both, bad_bounds_text, bad_run_text, bad_run_text_by, bad_seeds_text, bad_settings_text, bad_taken_text, missing_log_text, missing_seeds_text, unasked_text}
+use Rattle.ioac.specs.Telling.{bad_bounds_text, bad_run_text, bad_run_text_by, bad_seeds_text, bad_settings_text, bad_taken_text, missing_log_text, missing_seeds_text, unasked_text}
 use Rattle.ioa_request.specs.CommandLine.{asks_seeds}
 use Rattle.ioa_request.proofs.Asked.{given, lent}
 
@@ -56,16 +56,15 @@ told_seeds found word turns there t =
     let rows = rows_of (found_of found) in
     ap (bad_seeds_text word) (sym (given found (codes "turns") turns t)) ∙ sym (ap (λ o. bad_run_text_by o rows) (given found (codes "seeds") (Some word) there))
 
-pub told_other : (m found : ArgMatches) (name : Text) (until code : Option Text) (both : Bool) → Some name ≡ subcommand_name_of m
+pub told_other : (m found : ArgMatches) (name : Text) (until code : Option Text) → Some name ≡ subcommand_name_of m
     → Some (rows_of (found_of found)) ≡ option_map (λ p. p.1) (subcommand_rows_of m) → bytes_eq name (codes "run") ≡ false
     → bytes_eq name (codes "chart") ≡ false → until ≡ first_value (found_of found) (codes "until") → code ≡ first_value (found_of found) (codes "TEXT")
-    → both ≡ asks_both (rows_of (found_of found)) → bad_taken_text until code both ≡ unasked_text (subcommand_rows_of m)
-told_other m found name until code both e f other is u w b =
+    → bad_taken_text until code (rows_of (found_of found)) ≡ unasked_text (subcommand_rows_of m)
+told_other m found name until code e f other is u w =
     let rows = rows_of (found_of found) in
     let here = lent m found name name e f refl in
-    let chosen : unasked_text (Some (name, rows)) ≡ bad_taken_text (first_of (codes "until") rows) (first_of (codes "TEXT") rows) (asks_both rows) = rw other (rw is refl) in
-    ap (λ x. bad_taken_text x code both) (sym (given found (codes "until") until u))
-    ∙ ap₂ (bad_taken_text (first_of (codes "until") rows)) (sym (given found (codes "TEXT") code w)) b ∙ sym chosen ∙ ap unasked_text (sym here)
+    let chosen : unasked_text (Some (name, rows)) ≡ bad_taken_text (first_of (codes "until") rows) (first_of (codes "TEXT") rows) rows = rw other (rw is refl) in
+    ap₂ (λ x y. bad_taken_text x y rows) (sym (given found (codes "until") until u)) (sym (given found (codes "TEXT") code w)) ∙ sym chosen ∙ ap unasked_text (sym here)
 
 pub told_none : (m : ArgMatches) → None ≡ option_map (λ p. p.1) (subcommand_rows_of m) → missing_log_text ≡ unasked_text (subcommand_rows_of m)
 told_none m rows = go (subcommand_rows_of m) rows

@@ -29,11 +29,11 @@ composition_of request = option_and_then (λ p. p.1) (source_of request)
 -- the specifications that a watch names, or runs by many seeds
 abbrev pub specifications_of : Request → List Name
 specifications_of (Request.Watch file compositions first counts json) = texts compositions.now
-specifications_of (Request.Replay file composition) = []
+specifications_of (Request.Replay file composition json) = []
 specifications_of (Request.ReplayStates file composition shown) = []
-specifications_of (Request.ReplayLog file composition) = []
+specifications_of (Request.ReplayLog file composition json) = []
 specifications_of (Request.ReplayLogStates file composition shown) = []
-specifications_of (Request.ReplayInvariants file composition) = []
+specifications_of (Request.ReplayInvariants file composition json) = []
 specifications_of (Request.Log file composition) = []
 specifications_of (Request.LogByLog file composition) = []
 specifications_of (Request.Monitor file composition) = []

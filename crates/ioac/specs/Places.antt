@@ -18,11 +18,11 @@ use Rattle.ioac.specs.Remarks.{source_of}
 abbrev pub settings_of : Request → Option Settings
 settings_of (Request.Run settings) = Some settings
 settings_of (Request.Seeds seeds) = Some seeds.run
-settings_of (Request.Replay file composition) = None
+settings_of (Request.Replay file composition json) = None
 settings_of (Request.ReplayStates file composition shown) = None
-settings_of (Request.ReplayLog file composition) = None
+settings_of (Request.ReplayLog file composition json) = None
 settings_of (Request.ReplayLogStates file composition shown) = None
-settings_of (Request.ReplayInvariants file composition) = None
+settings_of (Request.ReplayInvariants file composition json) = None
 settings_of (Request.Log file composition) = None
 settings_of (Request.LogByLog file composition) = None
 settings_of (Request.Monitor file composition) = None
@@ -64,11 +64,11 @@ abbrev pub out_of : Request → Option Name
 out_of (Request.Compile file out composition) = Some out.now
 out_of (Request.Run settings) = None
 out_of (Request.Seeds seeds) = option_copied seeds.keep
-out_of (Request.Replay file composition) = None
+out_of (Request.Replay file composition json) = None
 out_of (Request.ReplayStates file composition shown) = None
-out_of (Request.ReplayLog file composition) = None
+out_of (Request.ReplayLog file composition json) = None
 out_of (Request.ReplayLogStates file composition shown) = None
-out_of (Request.ReplayInvariants file composition) = None
+out_of (Request.ReplayInvariants file composition json) = None
 out_of (Request.Log file composition) = None
 out_of (Request.LogByLog file composition) = None
 out_of (Request.Monitor file composition) = None
@@ -84,12 +84,12 @@ out_of Request.Library = None
 
 -- what stands on standard input
 abbrev pub input_name : Request → Name
-input_name (Request.Replay file composition) = codes "list"
+input_name (Request.Replay file composition json) = codes "list"
 input_name (Request.ReplayStates file composition shown) = codes "list"
 input_name (Request.Log file composition) = codes "list"
-input_name (Request.ReplayLog file composition) = codes "log"
+input_name (Request.ReplayLog file composition json) = codes "log"
 input_name (Request.ReplayLogStates file composition shown) = codes "log"
-input_name (Request.ReplayInvariants file composition) = codes "log"
+input_name (Request.ReplayInvariants file composition json) = codes "log"
 input_name (Request.LogByLog file composition) = codes "log"
 input_name (Request.Monitor file composition) = codes "log"
 input_name (Request.MonitorJson file composition) = codes "log"

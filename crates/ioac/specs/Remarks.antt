@@ -47,11 +47,11 @@ named_by o = option_map (λ p. (p.0.now, option_copied p.1)) o
 
 -- the source or the object that a request names, and the composition
 abbrev pub source_of : Request → Option (Name × Option Name)
-source_of (Request.Replay file composition) = Some (file.now, option_copied composition)
+source_of (Request.Replay file composition json) = Some (file.now, option_copied composition)
 source_of (Request.ReplayStates file composition shown) = Some (file.now, option_copied composition)
-source_of (Request.ReplayLog file composition) = Some (file.now, option_copied composition)
+source_of (Request.ReplayLog file composition json) = Some (file.now, option_copied composition)
 source_of (Request.ReplayLogStates file composition shown) = Some (file.now, option_copied composition)
-source_of (Request.ReplayInvariants file composition) = Some (file.now, option_copied composition)
+source_of (Request.ReplayInvariants file composition json) = Some (file.now, option_copied composition)
 source_of (Request.Log file composition) = Some (file.now, option_copied composition)
 source_of (Request.LogByLog file composition) = Some (file.now, option_copied composition)
 source_of (Request.Monitor file composition) = Some (file.now, option_copied composition)
@@ -148,14 +148,14 @@ TellsRunEnd Status.Unable t before after = after ≡ before
 -- what is told of a request that was served to this status, or whose log is of another run by this line
 abbrev pub Explains : Request → Ended → Told → List ℕ → List ℕ → Type 0
 Explains request (Ended.Diverged n) t before after = OfBegun t n (λ log. TellsDifference t (actions_of log) log.ending) before after
-Explains (Request.Replay file composition) (Ended.Served status) t before after = TellsListEnd t before after
+Explains (Request.Replay file composition json) (Ended.Served status) t before after = TellsListEnd t before after
 Explains (Request.ReplayStates file composition shown) (Ended.Served status) t before after = TellsListEnd t before after
 Explains (Request.Log file composition) (Ended.Served status) t before after = TellsListEnd t before after
-Explains (Request.ReplayLog file composition) (Ended.Served status) t before after = TellsLogEnd t before after
+Explains (Request.ReplayLog file composition json) (Ended.Served status) t before after = TellsLogEnd t before after
 Explains (Request.ReplayLogStates file composition shown) (Ended.Served status) t before after = TellsLogEnd t before after
 Explains (Request.LogByLog file composition) (Ended.Served status) t before after = TellsLogEnd t before after
 Explains (Request.Chart file composition selection) (Ended.Served status) t before after = TellsLogEnd t before after
-Explains (Request.ReplayInvariants file composition) (Ended.Served status) t before after = OfLog t (λ log. OfHosts t (λ h. TellsInspected t h log)) before after
+Explains (Request.ReplayInvariants file composition json) (Ended.Served status) t before after = OfLog t (λ log. OfHosts t (λ h. TellsInspected t h log)) before after
 Explains (Request.Monitor file composition) (Ended.Served status) t before after = OfLog t (λ log. TellsCounted t (performed_in log)) before after
 Explains (Request.MonitorJson file composition) (Ended.Served status) t before after = OfLog t (λ log. TellsCounted t (performed_in log)) before after
 Explains (Request.StrictMonitor file composition json) (Ended.Served status) t before after = OfLog t (λ log. TellsCounted t (performed_in log)) before after
@@ -192,13 +192,13 @@ TellsOfObject (Request.Monitor file composition) object name input before after 
 TellsOfObject (Request.MonitorJson file composition) object name input before after = TellsObjectMonitor object name input before after
 TellsOfObject (Request.StrictMonitor file composition json) object name input before after = TellsObjectMonitor object name input before after
 TellsOfObject (Request.Watch file compositions first counts json) object name input before after = after ≡ before
-TellsOfObject (Request.Replay file composition) object name input before after = after ≡ before
+TellsOfObject (Request.Replay file composition json) object name input before after = after ≡ before
 TellsOfObject (Request.ReplayStates file composition shown) object name input before after = after ≡ before
 TellsOfObject (Request.Log file composition) object name input before after = after ≡ before
 TellsOfObject (Request.LogByLog file composition) object name input before after = after ≡ before
-TellsOfObject (Request.ReplayLog file composition) object name input before after = after ≡ before
+TellsOfObject (Request.ReplayLog file composition json) object name input before after = after ≡ before
 TellsOfObject (Request.ReplayLogStates file composition shown) object name input before after = after ≡ before
-TellsOfObject (Request.ReplayInvariants file composition) object name input before after = after ≡ before
+TellsOfObject (Request.ReplayInvariants file composition json) object name input before after = after ≡ before
 TellsOfObject (Request.Chart file composition selection) object name input before after = after ≡ before
 TellsOfObject (Request.Run settings) object name input before after = after ≡ before
 TellsOfObject (Request.Seeds seeds) object name input before after = after ≡ before
@@ -239,11 +239,11 @@ TellsEnded holds lacks request (Some from) ended input before after =
 -- a source is to be checked, of which there may be warnings
 abbrev pub IsChecking : Request → Type 0
 IsChecking (Request.Check file compositions) = Unit {0}
-IsChecking (Request.Replay file composition) = ⊥
+IsChecking (Request.Replay file composition json) = ⊥
 IsChecking (Request.ReplayStates file composition shown) = ⊥
-IsChecking (Request.ReplayLog file composition) = ⊥
+IsChecking (Request.ReplayLog file composition json) = ⊥
 IsChecking (Request.ReplayLogStates file composition shown) = ⊥
-IsChecking (Request.ReplayInvariants file composition) = ⊥
+IsChecking (Request.ReplayInvariants file composition json) = ⊥
 IsChecking (Request.Log file composition) = ⊥
 IsChecking (Request.LogByLog file composition) = ⊥
 IsChecking (Request.Monitor file composition) = ⊥

@@ -1,5 +1,5 @@
 -- What is told on standard error.
-use Rattle.std.specs.Prelude.{◌≡◌, ℕ, ◌⊎◌, ◌++◌, ◌∷◌, ◌&&◌, ◌||◌, Bool, true, false, if◌then◌else◌, is_some, List, [], Option, Some, None, take, codes}
+use Rattle.std.specs.Prelude.{◌≡◌, ℕ, ◌⊎◌, ◌++◌, ◌∷◌, ◌&&◌, ◌||◌, Bool, if◌then◌else◌, is_some, List, [], Option, Some, None, take, codes}
 use Rattle.std.specs.List.{join_by}
 use Rattle.std.specs.Option.{option_map_or}
 use Rattle.std.specs.Str.{bytes_eq}
@@ -7,7 +7,7 @@ use Rattle.clap.specs.Words.{Row, Text, first_of}
 use Rattle.ioa_serving.specs.declared.failure.Failure.{Failure}
 use Rattle.ioa_serving.specs.declared.status.Status.{Status}
 use Rattle.ioa_request.specs.Codes.{all_codes, spelling}
-use Rattle.ioa_request.specs.CommandLine.{asks_seeds, is_set}
+use Rattle.ioa_request.specs.CommandLine.{asks_seeds, is_set, mixes_json}
 use Rattle.ioa_serving.specs.Devices.{Change, Failed, Wrote}
 use Rattle.ioa_serving.specs.Printed.{failure_text}
 use Rattle.ioa_request.specs.Seeds.{range_in}
@@ -63,6 +63,10 @@ missing_log_text =
 abbrev pub two_questions_text : List ℕ
 two_questions_text = codes "error: the argument '--invariants' cannot be used with '--states' or '--enabled'" ++ try_help
 
+-- of objects that are asked for together with what is told of states
+abbrev pub mixed_json_text : List ℕ
+mixed_json_text = codes "error: the argument '--json' cannot be used with '--states' or '--enabled'" ++ try_help
+
 -- of a value that an option does not take, with what it takes
 abbrev pub invalid_value_text : Text → List ℕ → List ℕ → List ℕ
 invalid_value_text word option wanted =
@@ -114,10 +118,11 @@ abbrev pub bad_seeds_text : Text → Option Text → List ℕ
 bad_seeds_text word turns =
     if is_some (range_in word) then bad_seeds_turns_text turns else invalid_value_text word (codes "--seeds <A..B>") seeds_wanted
 
--- what stands of runs by many seeds without their numbers: specifications, or else invariants, or a file for a log
+-- what stands of runs by many seeds without their numbers: specifications, or else invariants, or a file for a log, or objects
 abbrev pub seeds_option : List Row → List ℕ
 seeds_option rows =
-    if is_some (first_of (codes "monitor") rows) then codes "--monitor <SPEC>" else if is_set (codes "invariants") rows then codes "--invariants" else codes "--keep <KFILE>"
+    if is_some (first_of (codes "monitor") rows) then codes "--monitor <SPEC>" else if is_set (codes "invariants") rows then codes "--invariants"
+    else if is_some (first_of (codes "keep") rows) then codes "--keep <KFILE>" else codes "--json"
 
 -- of what a single run has not
 abbrev pub missing_seeds_text : List Row → List ℕ
@@ -147,21 +152,20 @@ bad_bounds_text (Some word) to =
 abbrev pub asks_both : List Row → Bool
 asks_both rows = is_set (codes "invariants") rows && (is_set (codes "states") rows || is_set (codes "enabled") rows)
 
--- of a replay that is asked for both, or of a list for invariants
-abbrev pub bad_replay_text : Bool → List ℕ
-bad_replay_text true = two_questions_text
-bad_replay_text false = missing_log_text
+-- of a replay that is asked for objects and to tell of states, or for invariants and for that, or of a list for invariants
+abbrev pub bad_replay_text : List Row → List ℕ
+bad_replay_text rows = if mixes_json rows then mixed_json_text else if asks_both rows then two_questions_text else missing_log_text
 
 -- of what there is no explanation of; or without a word, of a replay
-abbrev pub bad_request_text : Option Text → Bool → List ℕ
-bad_request_text None both = bad_replay_text both
-bad_request_text (Some word) both = unknown_code_text word known_codes
+abbrev pub bad_request_text : Option Text → List Row → List ℕ
+bad_request_text None rows = bad_replay_text rows
+bad_request_text (Some word) rows = unknown_code_text word known_codes
 
 -- of a bound up to which a list or a log is taken that is no number, or else of these
-abbrev pub bad_taken_text : Option Text → Option Text → Bool → List ℕ
-bad_taken_text None first both = bad_request_text first both
-bad_taken_text (Some word) first both =
-    if is_some (bound_in (Some word)) then bad_request_text first both else invalid_value_text word (codes "--until <N>") (codes "a whole number of 64 bits")
+abbrev pub bad_taken_text : Option Text → Option Text → List Row → List ℕ
+bad_taken_text None first rows = bad_request_text first rows
+bad_taken_text (Some word) first rows =
+    if is_some (bound_in (Some word)) then bad_request_text first rows else invalid_value_text word (codes "--until <N>") (codes "a whole number of 64 bits")
 
 -- of a command line without a fault that asks for nothing, by its subcommand and the values of this
 abbrev pub unasked_text : Option (Text × List Row) → List ℕ
@@ -169,4 +173,4 @@ unasked_text None = missing_log_text
 unasked_text (Some found) =
     if bytes_eq found.0 (codes "run") then bad_run_text found.1
     else if bytes_eq found.0 (codes "chart") then bad_bounds_text (first_of (codes "from") found.1) (first_of (codes "to") found.1)
-    else bad_taken_text (first_of (codes "until") found.1) (first_of (codes "TEXT") found.1) (asks_both found.1)
+    else bad_taken_text (first_of (codes "until") found.1) (first_of (codes "TEXT") found.1) found.1

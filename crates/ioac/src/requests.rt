@@ -17,10 +17,10 @@ use ioa_request::{Request, Selection, Shown, Topic};
 use ioa_serving::explain::explain;
 use ioa_serving::{
     Failure, Finding, Ran, Served, Status, Store, chart_log_text, check_text, compile_file,
-    dump_object, graph_text, log_list_text, log_log_text, monitor_text, replay_invariants_text,
-    replay_log_states_text, replay_log_text, replay_states_text, replay_text, run_file,
-    run_seeds_file, silent, status_of, status_of_verdict, strict_monitor_text, watch_text,
-    write_library,
+    dump_object, graph_text, log_list_text, log_log_text, monitor_text, replay_in_form,
+    replay_invariants_in_form, replay_log_in_form, replay_log_states_text, replay_states_text,
+    run_file, run_seeds_file, silent, status_of, status_of_verdict, strict_monitor_text,
+    watch_text, write_library,
 };
 use ioa_system::End;
 use std::alloc::Global;
@@ -52,8 +52,12 @@ pub(crate) fn serve<H: Threads + Wait + Clock + Sync, F: Store, R: InputDevice, 
     ensures once { FailedOnceAtMost (R.failure_count input.old) (R.failure_count input.new) × FailedOnceAtMost (W.failure_count output.old) (W.failure_count output.new) }
 {
     match asked {
-        Request::Replay { file, composition } => (
-            replay(alloc, file, *composition, store, input, output),
+        Request::Replay {
+            file,
+            composition,
+            json,
+        } => (
+            replay(alloc, file, *composition, *json, store, input, output),
             None,
         ),
         Request::ReplayStates {
@@ -64,8 +68,12 @@ pub(crate) fn serve<H: Threads + Wait + Clock + Sync, F: Store, R: InputDevice, 
             replay_states(alloc, file, *composition, *shown, store, input, output),
             None,
         ),
-        Request::ReplayLog { file, composition } => (
-            replay_log(alloc, file, *composition, store, input, output),
+        Request::ReplayLog {
+            file,
+            composition,
+            json,
+        } => (
+            replay_log(alloc, file, *composition, *json, store, input, output),
             None,
         ),
         Request::ReplayLogStates {
@@ -76,8 +84,12 @@ pub(crate) fn serve<H: Threads + Wait + Clock + Sync, F: Store, R: InputDevice, 
             replay_log_states(alloc, file, *composition, *shown, store, input, output),
             None,
         ),
-        Request::ReplayInvariants { file, composition } => (
-            replay_invariants(alloc, file, *composition, store, input, output),
+        Request::ReplayInvariants {
+            file,
+            composition,
+            json,
+        } => (
+            replay_invariants(alloc, file, *composition, *json, store, input, output),
             None,
         ),
         Request::Log { file, composition } => (
@@ -151,22 +163,23 @@ pub(crate) fn serve<H: Threads + Wait + Clock + Sync, F: Store, R: InputDevice, 
     }
 }
 
-/// Replays the list on standard input on what the file gives.
+/// Replays the list on standard input on what the file gives, and tells objects or text.
 fn replay<F: Store, R: InputDevice, W: OutputDevice>(
     alloc: Global,
     file: &str,
     composition: Option<&str>,
+    json: bool,
     store: &F,
     input: &mut R,
     output: &mut W,
 ) -> Result<Served, Failure>
-    ensures served { IfOk result (λ s. Serves (read_only F.holds F.lacks store.now) (requests.Replay file.entry composition.entry) (change R.remaining R.failure_count input.old input.new) (change W.contents W.failure_count output.old output.new) s) }
-    ensures refused { IfErr result (λ e. Fails (read_only F.holds F.lacks store.now) (requests.Replay file.entry composition.entry) (change R.remaining R.failure_count input.old input.new) (change W.contents W.failure_count output.old output.new) e) }
+    ensures served { IfOk result (λ s. Serves (read_only F.holds F.lacks store.now) (requests.Replay file.entry composition.entry json) (change R.remaining R.failure_count input.old input.new) (change W.contents W.failure_count output.old output.new) s) }
+    ensures refused { IfErr result (λ e. Fails (read_only F.holds F.lacks store.now) (requests.Replay file.entry composition.entry json) (change R.remaining R.failure_count input.old input.new) (change W.contents W.failure_count output.old output.new) e) }
     ensures passed { (IsErrOf result (Failure.List LogErr.Io) → ⊥) → (R.failure_count input.new ≡ R.failure_count input.old) × (W.failure_count output.new ≡ W.failure_count output.old) }
     ensures once { FailedOnceAtMost (R.failure_count input.old) (R.failure_count input.new) × FailedOnceAtMost (W.failure_count output.old) (W.failure_count output.new) }
 {
     let text = store.load(alloc, file)?;
-    let end = replay_text(alloc, text.as_slice(), composition, input, output)?;
+    let end = replay_in_form(alloc, text.as_slice(), composition, json, input, output)?;
     Ok(silent(status_of(end)))
 }
 
@@ -190,22 +203,23 @@ fn replay_states<F: Store, R: InputDevice, W: OutputDevice>(
     Ok(silent(status_of(end)))
 }
 
-/// Replays the log on standard input.
+/// Replays the log on standard input, and tells objects or text.
 fn replay_log<F: Store, R: InputDevice, W: OutputDevice>(
     alloc: Global,
     file: &str,
     composition: Option<&str>,
+    json: bool,
     store: &F,
     input: &mut R,
     output: &mut W,
 ) -> Result<Served, Failure>
-    ensures served { IfOk result (λ s. Serves (read_only F.holds F.lacks store.now) (requests.ReplayLog file.entry composition.entry) (change R.remaining R.failure_count input.old input.new) (change W.contents W.failure_count output.old output.new) s) }
-    ensures refused { IfErr result (λ e. Fails (read_only F.holds F.lacks store.now) (requests.ReplayLog file.entry composition.entry) (change R.remaining R.failure_count input.old input.new) (change W.contents W.failure_count output.old output.new) e) }
+    ensures served { IfOk result (λ s. Serves (read_only F.holds F.lacks store.now) (requests.ReplayLog file.entry composition.entry json) (change R.remaining R.failure_count input.old input.new) (change W.contents W.failure_count output.old output.new) s) }
+    ensures refused { IfErr result (λ e. Fails (read_only F.holds F.lacks store.now) (requests.ReplayLog file.entry composition.entry json) (change R.remaining R.failure_count input.old input.new) (change W.contents W.failure_count output.old output.new) e) }
     ensures passed { (IsErrOf result (Failure.List LogErr.Io) → ⊥) → (R.failure_count input.new ≡ R.failure_count input.old) × (W.failure_count output.new ≡ W.failure_count output.old) }
     ensures once { FailedOnceAtMost (R.failure_count input.old) (R.failure_count input.new) × FailedOnceAtMost (W.failure_count output.old) (W.failure_count output.new) }
 {
     let text = store.load(alloc, file)?;
-    let end = replay_log_text(alloc, text.as_slice(), composition, input, output)?;
+    let end = replay_log_in_form(alloc, text.as_slice(), composition, json, input, output)?;
     Ok(silent(status_of(end)))
 }
 
@@ -229,22 +243,24 @@ fn replay_log_states<F: Store, R: InputDevice, W: OutputDevice>(
     Ok(silent(status_of(end)))
 }
 
-/// Replays the log on standard input, and asks for the invariants in each of its states.
+/// Replays the log on standard input, and asks for the invariants in each of its states, and tells objects or text.
 fn replay_invariants<F: Store, R: InputDevice, W: OutputDevice>(
     alloc: Global,
     file: &str,
     composition: Option<&str>,
+    json: bool,
     store: &F,
     input: &mut R,
     output: &mut W,
 ) -> Result<Served, Failure>
-    ensures served { IfOk result (λ s. Serves (read_only F.holds F.lacks store.now) (requests.ReplayInvariants file.entry composition.entry) (change R.remaining R.failure_count input.old input.new) (change W.contents W.failure_count output.old output.new) s) }
-    ensures refused { IfErr result (λ e. Fails (read_only F.holds F.lacks store.now) (requests.ReplayInvariants file.entry composition.entry) (change R.remaining R.failure_count input.old input.new) (change W.contents W.failure_count output.old output.new) e) }
+    ensures served { IfOk result (λ s. Serves (read_only F.holds F.lacks store.now) (requests.ReplayInvariants file.entry composition.entry json) (change R.remaining R.failure_count input.old input.new) (change W.contents W.failure_count output.old output.new) s) }
+    ensures refused { IfErr result (λ e. Fails (read_only F.holds F.lacks store.now) (requests.ReplayInvariants file.entry composition.entry json) (change R.remaining R.failure_count input.old input.new) (change W.contents W.failure_count output.old output.new) e) }
     ensures passed { (IsErrOf result (Failure.List LogErr.Io) → ⊥) → (R.failure_count input.new ≡ R.failure_count input.old) × (W.failure_count output.new ≡ W.failure_count output.old) }
     ensures once { FailedOnceAtMost (R.failure_count input.old) (R.failure_count input.new) × FailedOnceAtMost (W.failure_count output.old) (W.failure_count output.new) }
 {
     let text = store.load(alloc, file)?;
-    let finding = replay_invariants_text(alloc, text.as_slice(), composition, input, output)?;
+    let bytes = text.as_slice();
+    let finding = replay_invariants_in_form(alloc, bytes, composition, json, input, output)?;
     Ok(silent(status_of_finding(finding)))
 }
 

@@ -15,7 +15,9 @@ use crate::telling::{put, put_short, reported};
 use clap::ArgMatches;
 use clap::error::ErrorKind;
 use ioa_log::{OutputDevice, send_all};
-use ioa_request::{Code, asks_seeds, is_given, is_set, read_bound, read_range, read_turns};
+use ioa_request::{
+    Code, asks_seeds, is_given, is_set, mixes_json, read_bound, read_range, read_turns,
+};
 use ioa_serving::{Failure, Status};
 use std::alloc::{AllocError, Global};
 
@@ -75,7 +77,7 @@ fn shown<W: OutputDevice, E: OutputDevice>(
 }
 
 /// Tells of a command line that has no fault and asks for nothing, and answers the exit status. It asks for what there is no explanation of, for the
-/// invariants of a list, for invariants and what is told of states, for a run whose settings are none, for a chart within bounds that are none, or for
+/// invariants of a list, for invariants and what is told of states, for objects and that, for a run whose settings are none, for a chart within bounds that are none, or for
 /// a list or a log up to a bound that is none.
 pub fn told_unasked<E: OutputDevice>(
     alloc: Global,
@@ -108,7 +110,7 @@ fn unasked_text(alloc: Global, matches: &ArgMatches<'_>) -> Result<String, Alloc
         return bad_bounds_text(alloc, found.get_str("from"), found.get_str("to"));
     }
     let until = found.get_str("until");
-    bad_taken_text(alloc, until, found.get_str("TEXT"), asks_both(found))
+    bad_taken_text(alloc, until, found.get_str("TEXT"), found)
 }
 
 /// What is wrong with the words for a run, or for runs by many seeds.
@@ -214,8 +216,10 @@ fn seeds_option(found: &ArgMatches<'_>) -> &'static str
         "--monitor <SPEC>"
     } else if is_set(found, "invariants") {
         "--invariants"
-    } else {
+    } else if is_given(found, "keep") {
         "--keep <KFILE>"
+    } else {
+        "--json"
     }
 }
 
@@ -265,27 +269,43 @@ fn bad_taken_text(
     alloc: Global,
     until: Option<&str>,
     first: Option<&str>,
-    both: bool,
+    found: &ArgMatches<'_>,
 ) -> Result<String, AllocError>
-    ensures { IfOk result (λ text. string_bytes text ≡ telling.bad_taken_text (option_copied until.entry) (option_copied first.entry) both) }
+    ensures { IfOk result (λ text. string_bytes text ≡ telling.bad_taken_text (option_copied until.entry) (option_copied first.entry) (rows_of (found_of found.now))) }
 {
     match until {
         Some(word) if read_bound(until).is_none() => {
             invalid_value_text(alloc, word, "--until <N>", "a whole number of 64 bits")
         }
-        _ => bad_request_text(alloc, first, both),
+        _ => bad_request_text(alloc, first, found),
     }
 }
 
 /// What is wrong with the first word of what there is no explanation of; or without a word, with what a replay is asked for.
-fn bad_request_text(alloc: Global, first: Option<&str>, both: bool) -> Result<String, AllocError>
-    ensures { IfOk result (λ text. string_bytes text ≡ telling.bad_request_text (option_copied first.entry) both) }
+fn bad_request_text(
+    alloc: Global,
+    first: Option<&str>,
+    found: &ArgMatches<'_>,
+) -> Result<String, AllocError>
+    ensures { IfOk result (λ text. string_bytes text ≡ telling.bad_request_text (option_copied first.entry) (rows_of (found_of found.now))) }
 {
     match first {
         Some(word) => unknown_code_text(alloc, word),
-        None if both => two_questions_text(alloc),
-        None => missing_log_text(alloc),
+        None => bad_replay_text(alloc, found),
     }
+}
+
+/// What is wrong with what a replay is asked for.
+fn bad_replay_text(alloc: Global, found: &ArgMatches<'_>) -> Result<String, AllocError>
+    ensures { IfOk result (λ text. string_bytes text ≡ telling.bad_replay_text (rows_of (found_of found.now))) }
+{
+    if mixes_json(found) {
+        return mixed_json_text(alloc);
+    }
+    if asks_both(found) {
+        return two_questions_text(alloc);
+    }
+    missing_log_text(alloc)
 }
 
 /// That an option does not take the word, and what it takes, in the manner of `clap`.
@@ -343,6 +363,16 @@ fn two_questions_text(alloc: Global) -> Result<String, AllocError>
     String::from_str(
         alloc,
         "error: the argument '--invariants' cannot be used with '--states' or '--enabled'\n\nFor more information, try '--help'.\n",
+    )
+}
+
+/// That objects and what is told of states are not asked for together, in the same manner.
+fn mixed_json_text(alloc: Global) -> Result<String, AllocError>
+    ensures { IfOk result (λ text. string_bytes text ≡ telling.mixed_json_text) }
+{
+    String::from_str(
+        alloc,
+        "error: the argument '--json' cannot be used with '--states' or '--enabled'\n\nFor more information, try '--help'.\n",
     )
 }
 

@@ -11,6 +11,7 @@ mod cuts;
 mod declared;
 mod explained;
 mod invariants;
+mod json;
 mod kept;
 mod library;
 mod lines;

@@ -116,19 +116,31 @@ pub fn source_of<'a>(asked: &Request<'a>) -> Option<(&'a str, Option<&'a str>)>
     ensures { spec.named_by result ≡ spec.source_of asked.now }
 {
     match asked {
-        Request::Replay { file, composition } => Some((*file, *composition)),
+        Request::Replay {
+            file,
+            composition,
+            ..
+        } => Some((*file, *composition)),
         Request::ReplayStates {
             file,
             composition,
             ..
         } => Some((*file, *composition)),
-        Request::ReplayLog { file, composition } => Some((*file, *composition)),
+        Request::ReplayLog {
+            file,
+            composition,
+            ..
+        } => Some((*file, *composition)),
         Request::ReplayLogStates {
             file,
             composition,
             ..
         } => Some((*file, *composition)),
-        Request::ReplayInvariants { file, composition } => Some((*file, *composition)),
+        Request::ReplayInvariants {
+            file,
+            composition,
+            ..
+        } => Some((*file, *composition)),
         Request::Log { file, composition } => Some((*file, *composition)),
         Request::LogByLog { file, composition } => Some((*file, *composition)),
         Request::Monitor { file, composition } => Some((*file, *composition)),

@@ -3,8 +3,8 @@
 use crate::tests::shelf::{COUNTER, First, expect_rows};
 use crate::tests::{
     bounds, changes, choices, commands, composed, constants, crashes, cuts, declared, invariants,
-    lines, list_logs, lists, logs, loops, objects, pictures, proposals, requests, states, turns,
-    watches,
+    json, lines, list_logs, lists, logs, loops, objects, pictures, proposals, requests, states,
+    turns, watches,
 };
 use std::alloc::Global;
 use std::process::Abort;
@@ -44,11 +44,13 @@ const SOURCES: [(&str, First<'static>); 21] = [
 ];
 
 /// Those about what is asked of lists, of logs, and of the program.
-const REQUESTS: [(&str, First<'static>); 16] = [
+const REQUESTS: [(&str, First<'static>); 18] = [
     (crashes::LOGS, First::All),
     (cuts::ROWS, First::Words(COUNTER)),
     (cuts::COMPOSED, First::All),
     (invariants::REPLAYS, First::All),
+    (json::ROWS, First::Words(COUNTER)),
+    (json::COMPOSED, First::All),
     (logs::REPLAYS, First::Words(COUNTER)),
     (logs::BLANKS, First::Words(COUNTER)),
     (logs::FAULTS, First::All),

@@ -90,6 +90,17 @@ const COUNTS: &str = "\
 --alone --turns 2 --inputs l --seeds 7..7 |  | reset | 0000000000000000000000000000000000000000000000000000000000000007 end: done after 3^seeds 1; done 1; fault 0^ |  | 0
 --alone --turns 0 --seeds 000255..256 |  |  | 0000000000000000000000000000000000000000000000000000000000000255 end: done after 0^0000000000000000000000000000000000000000000000000000000000000256 end: done after 0^seeds 2; done 2; fault 0^ |  | 0
 --alone --turns 1 --seeds 18446744073709551615..18446744073709551615 |  |  | 0000000000000000000000000000000000000000000018446744073709551615 end: done after 1^seeds 1; done 1; fault 0^ |  | 0
+-- the same as objects
+--alone --turns 2 --seeds 9..10 --json |  |  | {\"seed\":\"0000000000000000000000000000000000000000000000000000000000000009\",\"end\":\"done\",\"count\":2,\"verdicts\":[]}^{\"seed\":\"0000000000000000000000000000000000000000000000000000000000000010\",\"end\":\"done\",\"count\":2,\"verdicts\":[]}^{\"seeds\":2,\"done\":2,\"fault\":0,\"verdicts\":[]}^ |  | 0
+--json --alone --turns 1 --seeds 18446744073709551615..18446744073709551615 |  |  | {\"seed\":\"0000000000000000000000000000000000000000000018446744073709551615\",\"end\":\"done\",\"count\":1,\"verdicts\":[]}^{\"seeds\":1,\"done\":1,\"fault\":0,\"verdicts\":[]}^ |  | 0
+--alone --turns 2 --inputs l --seeds 1..2 --json |  | tick(5) |  | N2 index 0^ | 4
+--alone --comp Nine --seeds 1..2 --json |  |  |  | E17^ | 1
+-- which are those of many seeds
+--alone --json |  |  |  | error: the argument '--json' needs '--seeds <A..B>'^^For more information, try '--help'.^ | 2
+--json --turns x |  |  |  | error: the argument '--json' needs '--seeds <A..B>'^^For more information, try '--help'.^ | 2
+--json --keep k |  |  |  | error: the argument '--keep <KFILE>' needs '--seeds <A..B>'^^For more information, try '--help'.^ | 2
+--log --json |  |  |  | error: the argument '--json' needs '--seeds <A..B>'^^For more information, try '--help'.^ | 2
+--seeds 1..2 --json |  |  |  | error: the argument '--seeds <A..B>' needs '--alone', and cannot be used with '--seed', '--words', '--resume', '--log' or '--reports'^^For more information, try '--help'.^ | 2
 -- what refuses a run refuses these before a line
 --alone --turns 100001 --seeds 1..2 |  |  |  | N1^ | 2
 --alone --turns 2 --inputs l --seeds 1..2 |  | tick(5) |  | N2 index 0^ | 4
@@ -128,6 +139,8 @@ const FAULTS: &str = "\
 --alone --turns 0 --seeds 3..3 |  |  | 0000000000000000000000000000000000000000000000000000000000000003 end: done after 0^seeds 1; done 1; fault 0^ |  | 0
 -- the action that faults is not performed, and the specification is not asked of it
 --alone --turns 1 --seeds 3..3 --monitor Two |  |  | 0000000000000000000000000000000000000000000000000000000000000003 end: fault 4 in component 1 at 0; Two: ok^seeds 1; done 0; fault 1; Two: not accepted 0^ |  | 3
+-- the same as an object
+--alone --turns 1 --seeds 3..3 --monitor Two --json |  |  | {\"seed\":\"0000000000000000000000000000000000000000000000000000000000000003\",\"end\":\"fault\",\"fault\":4,\"component\":1,\"index\":0,\"verdicts\":[{\"specification\":\"Two\",\"verdict\":\"ok\"}]}^{\"seeds\":1,\"done\":0,\"fault\":1,\"verdicts\":[{\"specification\":\"Two\",\"not accepted\":0}]}^ |  | 3
 -- no invariant is broken by it, since nothing of it is done
 --alone --turns 1 --seeds 3..3 --invariants |  |  | 0000000000000000000000000000000000000000000000000000000000000003 end: fault 4 in component 1 at 0; invariants: ok^seeds 1; done 0; fault 1; invariants: broken 0^ |  | 3
 -- and a fault is no refusal
@@ -163,6 +176,11 @@ const MONITORED: &str = "\
 --alone --turns 2 --seeds 7..7 --monitor All --monitor Two --keep k |  |  | 0000000000000000000000000000000000000000000000000000000000000007 end: done after 2; All: ok; Two: ok^seeds 1; done 1; fault 0; All: not accepted 0; Two: not accepted 0^ |  | 0
 --alone --turns 3 --seeds 7..7 --keep k |  |  | 0000000000000000000000000000000000000000000000000000000000000007 end: done after 3^seeds 1; done 1; fault 0^ |  | 0
 --alone --turns 3 --seeds 1..3 --monitor Two |  |  | 0000000000000000000000000000000000000000000000000000000000000001 end: done after 3; Two: not enabled at 2^0000000000000000000000000000000000000000000000000000000000000002 end: done after 3; Two: not enabled at 2^0000000000000000000000000000000000000000000000000000000000000003 end: done after 3; Two: not enabled at 2^seeds 3; done 3; fault 0; Two: not accepted 3^ |  | 4
+-- the same as objects
+--alone --turns 3 --seeds 7..7 --monitor Two --monitor All --monitor Picks --json |  |  | {\"seed\":\"0000000000000000000000000000000000000000000000000000000000000007\",\"end\":\"done\",\"count\":3,\"verdicts\":[{\"specification\":\"Two\",\"verdict\":\"not enabled\",\"index\":2},{\"specification\":\"All\",\"verdict\":\"ok\"},{\"specification\":\"Picks\",\"verdict\":\"fault\",\"fault\":4,\"component\":0,\"index\":0}]}^{\"seeds\":1,\"done\":1,\"fault\":0,\"verdicts\":[{\"specification\":\"Two\",\"not accepted\":1},{\"specification\":\"All\",\"not accepted\":0},{\"specification\":\"Picks\",\"not accepted\":1}]}^ |  | 4
+--alone --turns 2 --seeds 7..7 --monitor All --json --keep k |  |  | {\"seed\":\"0000000000000000000000000000000000000000000000000000000000000007\",\"end\":\"done\",\"count\":2,\"verdicts\":[{\"specification\":\"All\",\"verdict\":\"ok\"}]}^{\"seeds\":1,\"done\":1,\"fault\":0,\"verdicts\":[{\"specification\":\"All\",\"not accepted\":0}]}^ |  | 0
+--alone --turns 3 --seeds 7..7 --monitor Two --json --keep k |  |  | {\"seed\":\"0000000000000000000000000000000000000000000000000000000000000007\",\"end\":\"done\",\"count\":3,\"verdicts\":[{\"specification\":\"Two\",\"verdict\":\"not enabled\",\"index\":2}]}^{\"seeds\":1,\"done\":1,\"fault\":0,\"verdicts\":[{\"specification\":\"Two\",\"not accepted\":1}]}^ | io^ | 5
+--alone --seeds 1..2 --monitor Hides --json |  |  |  | L7^ | 4
 -- the composition of the run is looked for first, then the specifications in their order, and then the rest is read
 --alone --seeds 1..2 --monitor Nine |  |  |  | E17^ | 1
 --alone --seeds 1..2 --monitor All --monitor Hides --monitor Nine |  |  |  | L7^ | 4
@@ -204,6 +222,9 @@ const INSPECTED: &str = "\
 -- behind the specifications, and counted behind theirs
 --alone --turns 3 --seeds 7..7 --invariants --monitor Two --monitor Calm |  |  | 0000000000000000000000000000000000000000000000000000000000000007 end: done after 3; Two: not enabled at 2; Calm: ok; invariant 1 of component 1 broken after 2^seeds 1; done 1; fault 0; Two: not accepted 1; Calm: not accepted 0; invariants: broken 1^ |  | 4
 --alone --turns 1 --seeds 7..7 --invariants --monitor Two |  |  | 0000000000000000000000000000000000000000000000000000000000000007 end: done after 1; Two: ok; invariants: ok^seeds 1; done 1; fault 0; Two: not accepted 0; invariants: broken 0^ |  | 0
+-- the same as objects
+--alone --turns 2 --seeds 1..1 --invariants --json |  |  | {\"seed\":\"0000000000000000000000000000000000000000000000000000000000000001\",\"end\":\"done\",\"count\":2,\"verdicts\":[],\"invariants\":{\"verdict\":\"broken\",\"invariant\":1,\"component\":1,\"count\":2}}^{\"seeds\":1,\"done\":1,\"fault\":0,\"verdicts\":[],\"invariants\":{\"broken\":1}}^ |  | 4
+--alone --turns 1 --seeds 7..7 --invariants --monitor Two --json |  |  | {\"seed\":\"0000000000000000000000000000000000000000000000000000000000000007\",\"end\":\"done\",\"count\":1,\"verdicts\":[{\"specification\":\"Two\",\"verdict\":\"ok\"}],\"invariants\":{\"verdict\":\"ok\"}}^{\"seeds\":1,\"done\":1,\"fault\":0,\"verdicts\":[{\"specification\":\"Two\",\"not accepted\":0}],\"invariants\":{\"broken\":0}}^ |  | 0
 -- a composition in which no component is of an automaton that has one
 --alone --turns 6 --seeds 7..7 --invariants --comp Two |  |  | 0000000000000000000000000000000000000000000000000000000000000007 end: done after 6; invariants: ok^seeds 1; done 1; fault 0; invariants: broken 0^ |  | 0
 -- what refuses them

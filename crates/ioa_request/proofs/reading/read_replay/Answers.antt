@@ -1,6 +1,6 @@
 use Rattle.std.proofs.Common.{codes, inl, refl, sym, ◌∙◌}
 use Rattle.clap.specs.Words.{found_of, rows_of}
-use Rattle.ioa_request.proofs.Asked.{apart, no_both, no_bound, no_file, no_log, none_so}
+use Rattle.ioa_request.proofs.Asked.{apart, no_both, no_bound, no_file, no_log, no_mixture, none_so}
 use Rattle.ioa_request.proofs.reading.read_replay.Goals as goal
 
 pub returns-in_err-file-clause-none : goal.returns-in_err-file-clause-none
@@ -13,20 +13,23 @@ pub returns-then-not-is_bounded-clause-none : goal.returns-then-not-is_bounded-c
 returns-then-not-is_bounded-clause-none c =
     no_bound (codes "replay") (rows_of (found_of c.args.found.now)) (inl refl) (sym c.is_bounded.ensures ∙ c.if-not-is_bounded.true)
 
+pub returns-then-mixes_json-clause-none : goal.returns-then-mixes_json-clause-none
+returns-then-mixes_json-clause-none c = no_mixture (codes "replay") (rows_of (found_of c.args.found.now)) refl (sym c.mixes_json.ensures ∙ c.if-mixes_json.true)
+
 pub returns-in-false-false-None-clause-some : goal.returns-in-false-false-None-clause-some
-returns-in-false-false-None-clause-some c = ((refl, sym c.in-false-false-None.ensures, sym c.in-false-false-None.ensures', sym c.in-false-false-None.ensures'', sym c.is_bounded.ensures ∙ c.if-not-is_bounded.false), c.in_ok-file.ensures.some)
+returns-in-false-false-None-clause-some c = ((refl, sym c.in-false-false-None.ensures, sym c.in-false-false-None.ensures', sym c.in-false-false-None.ensures'', sym c.is_bounded.ensures ∙ c.if-not-is_bounded.false, sym c.mixes_json.ensures ∙ c.if-mixes_json.false), c.in_ok-file.ensures.some, sym c.asks_json-json.ensures)
 
 pub returns-in-false-false-Some-clause-some : goal.returns-in-false-false-Some-clause-some
-returns-in-false-false-Some-clause-some c = ((refl, sym c.in-false-false-Some.ensures, sym c.in-false-false-Some.ensures', sym c.in-false-false-Some.ensures'', sym c.is_bounded.ensures ∙ c.if-not-is_bounded.false), c.in_ok-file.ensures.some)
+returns-in-false-false-Some-clause-some c = ((refl, sym c.in-false-false-Some.ensures, sym c.in-false-false-Some.ensures', sym c.in-false-false-Some.ensures'', sym c.is_bounded.ensures ∙ c.if-not-is_bounded.false, sym c.mixes_json.ensures ∙ c.if-mixes_json.false), c.in_ok-file.ensures.some)
 
 pub returns-in-true-false-None-clause-some : goal.returns-in-true-false-None-clause-some
-returns-in-true-false-None-clause-some c = ((refl, sym c.in-true-false-None.ensures, sym c.in-true-false-None.ensures', sym c.in-true-false-None.ensures'', sym c.is_bounded.ensures ∙ c.if-not-is_bounded.false), c.in_ok-file.ensures.some)
+returns-in-true-false-None-clause-some c = ((refl, sym c.in-true-false-None.ensures, sym c.in-true-false-None.ensures', sym c.in-true-false-None.ensures'', sym c.is_bounded.ensures ∙ c.if-not-is_bounded.false, sym c.mixes_json.ensures ∙ c.if-mixes_json.false), c.in_ok-file.ensures.some, sym c.asks_json-json.ensures)
 
 pub returns-in-true-false-Some-clause-some : goal.returns-in-true-false-Some-clause-some
-returns-in-true-false-Some-clause-some c = ((refl, sym c.in-true-false-Some.ensures, sym c.in-true-false-Some.ensures', sym c.in-true-false-Some.ensures'', sym c.is_bounded.ensures ∙ c.if-not-is_bounded.false), c.in_ok-file.ensures.some)
+returns-in-true-false-Some-clause-some c = ((refl, sym c.in-true-false-Some.ensures, sym c.in-true-false-Some.ensures', sym c.in-true-false-Some.ensures'', sym c.is_bounded.ensures ∙ c.if-not-is_bounded.false, sym c.mixes_json.ensures ∙ c.if-mixes_json.false), c.in_ok-file.ensures.some)
 
 pub returns-in-true-true-None-clause-some : goal.returns-in-true-true-None-clause-some
-returns-in-true-true-None-clause-some c = ((refl, sym c.in-true-true-None.ensures, sym c.in-true-true-None.ensures', sym c.in-true-true-None.ensures'', sym c.is_bounded.ensures ∙ c.if-not-is_bounded.false), c.in_ok-file.ensures.some)
+returns-in-true-true-None-clause-some c = ((refl, sym c.in-true-true-None.ensures, sym c.in-true-true-None.ensures', sym c.in-true-true-None.ensures'', sym c.is_bounded.ensures ∙ c.if-not-is_bounded.false, sym c.mixes_json.ensures ∙ c.if-mixes_json.false), c.in_ok-file.ensures.some, sym c.asks_json-json.ensures)
 
 pub returns-in-true-true-Some-clause-none : goal.returns-in-true-true-Some-clause-none
 returns-in-true-true-Some-clause-none c =

@@ -1,6 +1,6 @@
 use Rattle.std.proofs.Common.{codes}
 use Rattle.clap.specs.Words.{App, new_app, with_rule}
-use Rattle.ioa_request.specs.CommandLine.{alone_rule, comp_rule, explain_rule, file_rule, inputs_rule, invariants_rule, keep_rule, log_rule, monitor_rule, reports_rule, resume_rule, seed_rule, seeds_rule, turns_rule, words_rule}
+use Rattle.ioa_request.specs.CommandLine.{alone_rule, comp_rule, explain_rule, file_rule, inputs_rule, invariants_rule, json_rule, keep_rule, log_rule, monitor_rule, reports_rule, resume_rule, seed_rule, seeds_rule, turns_rule, words_rule}
 use Rattle.ioa_request.proofs.run_usage.run_command.Goals as goal
 
 pub returns-clause-app : goal.returns-clause-app
@@ -26,15 +26,17 @@ returns-clause-app c =
     let nine = c.taking-command-9.ensures.app has_eight invariants_rule eight c.invariants_flag.ensures.local c.invariants_flag.ensures.rule in
     let has_ten : App = with_rule has_nine keep_rule in
     let ten = c.taking-command-10.ensures.app has_nine keep_rule nine c.keep_option.ensures.local c.keep_option.ensures.rule in
-    let has_eleven : App = with_rule has_ten inputs_rule in
-    let eleven = c.taking-command-11.ensures.app has_ten inputs_rule ten c.inputs_option.ensures.local c.inputs_option.ensures.rule in
-    let has_twelve : App = with_rule has_eleven resume_rule in
-    let twelve = c.taking-command-12.ensures.app has_eleven resume_rule eleven c.resume_option.ensures.local c.resume_option.ensures.rule in
-    let has_thirteen : App = with_rule has_twelve log_rule in
-    let thirteen = c.taking-command-13.ensures.app has_twelve log_rule twelve c.log_flag.ensures.local c.log_flag.ensures.rule in
-    let has_fourteen : App = with_rule has_thirteen reports_rule in
-    let fourteen = c.taking-command-14.ensures.app has_thirteen reports_rule thirteen c.reports_flag.ensures.local c.reports_flag.ensures.rule in
-    c.taking.ensures.app has_fourteen explain_rule fourteen c.explain_flag.ensures.local c.explain_flag.ensures.rule
+    let has_eleven : App = with_rule has_ten json_rule in
+    let eleven = c.taking-command-11.ensures.app has_ten json_rule ten c.json_flag.ensures.local c.json_flag.ensures.rule in
+    let has_twelve : App = with_rule has_eleven inputs_rule in
+    let twelve = c.taking-command-12.ensures.app has_eleven inputs_rule eleven c.inputs_option.ensures.local c.inputs_option.ensures.rule in
+    let has_thirteen : App = with_rule has_twelve resume_rule in
+    let thirteen = c.taking-command-13.ensures.app has_twelve resume_rule twelve c.resume_option.ensures.local c.resume_option.ensures.rule in
+    let has_fourteen : App = with_rule has_thirteen log_rule in
+    let fourteen = c.taking-command-14.ensures.app has_thirteen log_rule thirteen c.log_flag.ensures.local c.log_flag.ensures.rule in
+    let has_fifteen : App = with_rule has_fourteen reports_rule in
+    let fifteen = c.taking-command-15.ensures.app has_fourteen reports_rule fourteen c.reports_flag.ensures.local c.reports_flag.ensures.rule in
+    c.taking.ensures.app has_fifteen explain_rule fifteen c.explain_flag.ensures.local c.explain_flag.ensures.rule
 
 pub returns-clause-local : goal.returns-clause-local
 returns-clause-local c =
@@ -48,8 +50,9 @@ returns-clause-local c =
     let eight = c.taking-command-8.ensures.local seven c.monitor_option.ensures.local in
     let nine = c.taking-command-9.ensures.local eight c.invariants_flag.ensures.local in
     let ten = c.taking-command-10.ensures.local nine c.keep_option.ensures.local in
-    let eleven = c.taking-command-11.ensures.local ten c.inputs_option.ensures.local in
-    let twelve = c.taking-command-12.ensures.local eleven c.resume_option.ensures.local in
-    let thirteen = c.taking-command-13.ensures.local twelve c.log_flag.ensures.local in
-    let fourteen = c.taking-command-14.ensures.local thirteen c.reports_flag.ensures.local in
-    c.taking.ensures.local fourteen c.explain_flag.ensures.local
+    let eleven = c.taking-command-11.ensures.local ten c.json_flag.ensures.local in
+    let twelve = c.taking-command-12.ensures.local eleven c.inputs_option.ensures.local in
+    let thirteen = c.taking-command-13.ensures.local twelve c.resume_option.ensures.local in
+    let fourteen = c.taking-command-14.ensures.local thirteen c.log_flag.ensures.local in
+    let fifteen = c.taking-command-15.ensures.local fourteen c.reports_flag.ensures.local in
+    c.taking.ensures.local fifteen c.explain_flag.ensures.local

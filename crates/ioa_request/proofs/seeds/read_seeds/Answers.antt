@@ -15,6 +15,7 @@ returns-then-admits_seeds-clause-some c = record {
   admitted = sym c.if-admits_seeds.ensures;
   monitors = sym c.all_given-monitors.ensures;
   invariants = sym c.is_set-invariants.ensures;
+  json = sym c.asks_json-json.ensures;
   keep = given c.args.found.now (codes "keep") (option_copied c.get_str-keep.result) c.get_str-keep.ensures;
   range = range_read c.args.found.now c.in_ok-word.word.now (c.in_ok-first.first, c.in_ok-first.last) c.in_ok-word.ensures c.in_ok-first.ensures;
 }

@@ -70,7 +70,7 @@ add-requires-clause-answered g c =
 pub returns-clause-told : goal.returns-clause-told
 returns-clause-told g c =
     let so = c.loop-number.invariant in
-    let lines : List Judged → List ℕ = λ js. seed_lines (monitors_of c.args.seeds.now) c.args.seeds.now.first js in
+    let lines : List Judged → List ℕ = λ js. seed_lines c.args.seeds.now.json (monitors_of c.args.seeds.now) c.args.seeds.now.first js in
     elim c.loop-number-test.branch [
       | else-loop-number-test w ↦
           let count : length so.judged ≡ seeds_count c.args.seeds.now = omega (arith, so.next, so.few, w.loop-number-test.false) in

@@ -11,6 +11,6 @@ invariant-loop-number g l = record {
   few : length judged ≤ seeds_count l.seeds;
   runs : AreSeedJudgments l.sown l.seeds.run.turns l.seeds.first judged;
   tallied : IsTallyOf (length l.sown.specifications.items) l.tally judged;
-  output : Appends (g.W.Write.contents l.initial.output) (g.W.Write.contents l.output) (seed_lines (monitors_of l.seeds) l.seeds.first judged);
+  output : Appends (g.W.Write.contents l.initial.output) (g.W.Write.contents l.output) (seed_lines l.seeds.json (monitors_of l.seeds) l.seeds.first judged);
   passed : g.W.Device.failure_count l.output ≡ g.W.Device.failure_count l.initial.output;
 }
