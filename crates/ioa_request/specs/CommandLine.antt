@@ -19,12 +19,22 @@ use Rattle.ioa_request.specs.Selections.{are_in_order, bound_in, names_in}
 use Rattle.ioa_request.specs.Showing.{shown_in}
 use Rattle.ioa_request.specs.Settings.{source_in, source_of, turns_in}
 
+-- a word that has to stand; a flag, which is given by its name; and an option, whose name stands before a value
+abbrev pub argument_rule : Text → Rule
+argument_rule name = record (new_rule name) { required = true }
+
+abbrev pub flag_rule : Text → Rule
+flag_rule name = record (new_rule name) { long = Some name; action = Some ArgAction.SetTrue }
+
+abbrev pub option_rule : Text → Rule
+option_rule name = record (new_rule name) { long = Some name; value_names = 1 }
+
 -- words that have to stand
 abbrev pub file_rule : Rule
-file_rule = record (new_rule (codes "FILE")) { required = true }
+file_rule = argument_rule (codes "FILE")
 
 abbrev pub out_rule : Rule
-out_rule = record (new_rule (codes "OUT")) { required = true }
+out_rule = argument_rule (codes "OUT")
 
 -- a word that has to stand, and those behind it
 abbrev pub text_rule : Rule
@@ -32,103 +42,103 @@ text_rule = record (new_rule (codes "TEXT")) { required = true; range = Some (re
 
 -- `--comp NAME`
 abbrev pub comp_rule : Rule
-comp_rule = record (new_rule (codes "comp")) { long = Some (codes "comp"); value_names = 1 }
+comp_rule = option_rule (codes "comp")
 
 -- `--comp SPEC`, once for each specification, and for one at least
 abbrev pub specification_rule : Rule
-specification_rule = record (new_rule (codes "comp")) { long = Some (codes "comp"); action = Some ArgAction.Append; value_names = 1; required = true }
+specification_rule = record (option_rule (codes "comp")) { action = Some ArgAction.Append; required = true }
 
 -- `--first`
 abbrev pub first_rule : Rule
-first_rule = record (new_rule (codes "first")) { long = Some (codes "first"); action = Some ArgAction.SetTrue }
+first_rule = flag_rule (codes "first")
 
 -- `--strict`
 abbrev pub strict_rule : Rule
-strict_rule = record (new_rule (codes "strict")) { long = Some (codes "strict"); action = Some ArgAction.SetTrue }
+strict_rule = flag_rule (codes "strict")
 
 -- `--json`
 abbrev pub json_rule : Rule
-json_rule = record (new_rule (codes "json")) { long = Some (codes "json"); action = Some ArgAction.SetTrue }
+json_rule = flag_rule (codes "json")
 
 -- `--log`
 abbrev pub log_rule : Rule
-log_rule = record (new_rule (codes "log")) { long = Some (codes "log"); action = Some ArgAction.SetTrue }
+log_rule = flag_rule (codes "log")
 
 -- `--invariants`
 abbrev pub invariants_rule : Rule
-invariants_rule = record (new_rule (codes "invariants")) { long = Some (codes "invariants"); action = Some ArgAction.SetTrue }
+invariants_rule = flag_rule (codes "invariants")
 
 -- `--compositions`
 abbrev pub compositions_rule : Rule
-compositions_rule = record (new_rule (codes "compositions")) { long = Some (codes "compositions"); action = Some ArgAction.SetTrue }
+compositions_rule = flag_rule (codes "compositions")
 
 -- `--states`
 abbrev pub states_rule : Rule
-states_rule = record (new_rule (codes "states")) { long = Some (codes "states"); action = Some ArgAction.SetTrue }
+states_rule = flag_rule (codes "states")
 
 -- `--enabled`
 abbrev pub enabled_rule : Rule
-enabled_rule = record (new_rule (codes "enabled")) { long = Some (codes "enabled"); action = Some ArgAction.SetTrue }
+enabled_rule = flag_rule (codes "enabled")
 
 -- `--until N`
 abbrev pub until_rule : Rule
-until_rule = record (new_rule (codes "until")) { long = Some (codes "until"); value_names = 1 }
+until_rule = option_rule (codes "until")
 
 -- `--from N`
 abbrev pub from_rule : Rule
-from_rule = record (new_rule (codes "from")) { long = Some (codes "from"); value_names = 1 }
+from_rule = option_rule (codes "from")
 
 -- `--to M`
 abbrev pub to_rule : Rule
-to_rule = record (new_rule (codes "to")) { long = Some (codes "to"); value_names = 1 }
+to_rule = option_rule (codes "to")
 
 -- `--without NAME`, once for each name
 abbrev pub without_rule : Rule
-without_rule = record (new_rule (codes "without")) { long = Some (codes "without"); action = Some ArgAction.Append; value_names = 1 }
+without_rule = record (option_rule (codes "without")) { action = Some ArgAction.Append }
 
 -- `--alone`
 abbrev pub alone_rule : Rule
-alone_rule = record (new_rule (codes "alone")) { long = Some (codes "alone"); action = Some ArgAction.SetTrue }
+alone_rule = flag_rule (codes "alone")
 
 -- `--turns N`
 abbrev pub turns_rule : Rule
-turns_rule = record (new_rule (codes "turns")) { long = Some (codes "turns"); value_names = 1 }
+turns_rule = option_rule (codes "turns")
 
 -- `--seed HEX`
 abbrev pub seed_rule : Rule
-seed_rule = record (new_rule (codes "seed")) { long = Some (codes "seed"); value_names = 1 }
+seed_rule = option_rule (codes "seed")
 
 -- `--words WFILE`
 abbrev pub words_rule : Rule
-words_rule = record (new_rule (codes "words")) { long = Some (codes "words"); value_names = 1 }
+words_rule = option_rule (codes "words")
 
 -- `--seeds A..B`
 abbrev pub seeds_rule : Rule
-seeds_rule = record (new_rule (codes "seeds")) { long = Some (codes "seeds"); value_names = 1 }
+seeds_rule = option_rule (codes "seeds")
 
 -- `--monitor SPEC`, once for each specification
 abbrev pub monitor_rule : Rule
-monitor_rule = record (new_rule (codes "monitor")) { long = Some (codes "monitor"); action = Some ArgAction.Append; value_names = 1 }
+monitor_rule = record (option_rule (codes "monitor")) { action = Some ArgAction.Append }
 
 -- `--keep KFILE`
 abbrev pub keep_rule : Rule
-keep_rule = record (new_rule (codes "keep")) { long = Some (codes "keep"); value_names = 1 }
+keep_rule = option_rule (codes "keep")
 
 -- `--inputs LFILE`
 abbrev pub inputs_rule : Rule
-inputs_rule = record (new_rule (codes "inputs")) { long = Some (codes "inputs"); value_names = 1 }
+inputs_rule = option_rule (codes "inputs")
 
 -- `--resume RFILE`
 abbrev pub resume_rule : Rule
-resume_rule = record (new_rule (codes "resume")) { long = Some (codes "resume"); value_names = 1 }
+resume_rule = option_rule (codes "resume")
 
 -- `--reports`
 abbrev pub reports_rule : Rule
-reports_rule = record (new_rule (codes "reports")) { long = Some (codes "reports"); action = Some ArgAction.SetTrue }
+reports_rule = flag_rule (codes "reports")
 
 -- `--explain`
 abbrev pub explain_rule : Rule
-explain_rule = record (new_rule (codes "explain")) { long = Some (codes "explain"); action = Some ArgAction.SetTrue }
+explain_rule = flag_rule (codes "explain")
 
 abbrev pub check_app : App
 check_app = with_rule (with_rule (with_rule (new_app (codes "check")) file_rule) compositions_rule) explain_rule

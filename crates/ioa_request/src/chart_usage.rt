@@ -4,6 +4,7 @@ ghost use Rattle.std.specs.Prelude.{◌≡◌, false, codes, IfOk};
 ghost use Rattle.clap.specs.Words.{app_of, new_app, rule_of};
 ghost use Rattle.ioa_request.specs.CommandLine.{IsLocal, chart_app, from_rule, to_rule, without_rule};
 
+use crate::arguments::option;
 use crate::request::{composition_option, explain_flag, file_argument, taking};
 use clap::{Arg, ArgAction, Command};
 use std::alloc::{AllocError, Global};
@@ -13,7 +14,10 @@ fn from_option<'a>(alloc: Global) -> Arg<'a>
     ensures rule { rule_of result ≡ from_rule }
     ensures local { result.global ≡ false }
 {
-    Arg::new(alloc, "from").long("from").value_name("N").help(
+    option(
+        alloc,
+        "from",
+        "N",
         "The index of the first entry to draw, counted from 0; without it, 0",
     )
 }
@@ -23,7 +27,10 @@ fn to_option<'a>(alloc: Global) -> Arg<'a>
     ensures rule { rule_of result ≡ to_rule }
     ensures local { result.global ≡ false }
 {
-    Arg::new(alloc, "to").long("to").value_name("M").help(
+    option(
+        alloc,
+        "to",
+        "M",
         "The index of the last entry to draw, no less than N; without it, the last one is drawn, and the end",
     )
 }
@@ -33,11 +40,13 @@ fn without_option<'a>(alloc: Global) -> Arg<'a>
     ensures rule { rule_of result ≡ without_rule }
     ensures local { result.global ≡ false }
 {
-    Arg::new(alloc, "without")
-        .long("without")
-        .value_name("NAME")
-        .action(ArgAction::Append)
-        .help("A name whose actions are not drawn; once for each")
+    option(
+        alloc,
+        "without",
+        "NAME",
+        "A name whose actions are not drawn; once for each",
+    )
+    .action(ArgAction::Append)
 }
 
 /// The subcommand `chart`.

@@ -4,6 +4,7 @@ ghost use Rattle.std.specs.Prelude.{◌≡◌, false};
 ghost use Rattle.clap.specs.Words.{rule_of};
 ghost use Rattle.ioa_request.specs.CommandLine.{until_rule};
 
+use crate::arguments::option;
 use clap::Arg;
 use std::alloc::Global;
 
@@ -12,7 +13,10 @@ pub fn until_option<'a>(alloc: Global) -> Arg<'a>
     ensures rule { rule_of result ≡ until_rule }
     ensures local { result.global ≡ false }
 {
-    Arg::new(alloc, "until").long("until").value_name("N").help(
+    option(
+        alloc,
+        "until",
+        "N",
         "Stops after N actions; nothing behind them is judged, a log's end neither",
     )
 }

@@ -5,6 +5,7 @@
 #![tactic(auto)]
 
 // What is asked for.
+mod arguments;
 mod chart_usage;
 mod cut;
 mod cut_usage;

@@ -4,20 +4,20 @@ ghost use Rattle.std.specs.Prelude.{◌≡◌, false, codes, IfOk};
 ghost use Rattle.clap.specs.Words.{app_of, new_app, rule_of};
 ghost use Rattle.ioa_request.specs.CommandLine.{IsLocal, json_rule, monitor_app, strict_rule};
 
+use crate::arguments::flag;
 use crate::request::{composition_option, explain_flag, file_argument, taking};
-use clap::{Arg, ArgAction, Command};
+use clap::{Arg, Command};
 use std::alloc::{AllocError, Global};
 
 fn strict_flag<'a>(alloc: Global) -> Arg<'a>
     ensures rule { rule_of result ≡ strict_rule }
     ensures local { result.global ≡ false }
 {
-    Arg::new(alloc, "strict")
-        .long("strict")
-        .action(ArgAction::SetTrue)
-        .help(
-            "An action that has a name of the composition and is none of its actions is told, and a log without any of its actions",
-        )
+    flag(
+        alloc,
+        "strict",
+        "An action that has a name of the composition and is none of its actions is told, and a log without any of its actions",
+    )
 }
 
 /// What asks for JSON objects in place of text.
@@ -25,10 +25,11 @@ pub fn json_flag<'a>(alloc: Global) -> Arg<'a>
     ensures rule { rule_of result ≡ json_rule }
     ensures local { result.global ≡ false }
 {
-    Arg::new(alloc, "json")
-        .long("json")
-        .action(ArgAction::SetTrue)
-        .help("A JSON object a line is printed in place of the text")
+    flag(
+        alloc,
+        "json",
+        "A JSON object a line is printed in place of the text",
+    )
 }
 
 /// The subcommand `monitor`.

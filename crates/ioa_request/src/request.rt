@@ -4,6 +4,7 @@ ghost use Rattle.std.specs.Prelude.{◌≡◌, false, map, codes, IfOk};
 ghost use Rattle.clap.specs.Words.{App, FailsBy, Rule, app_of, fault_of, new_app, rule_of, subcommand_of, subcommand_rows_of, with_rule, with_subcommand};
 ghost use Rattle.ioa_request.specs.CommandLine.{IsLocal, check_app, comp_rule, compile_app, compositions_rule, dump_app, enabled_rule, explain_app, explain_rule, file_rule, graph_app, invariants_rule, ioac_app, library_app, log_app, log_rule, out_rule, replay_app, states_rule, text_rule};
 
+use crate::arguments::{argument, flag, option};
 use crate::chart_usage::chart_command;
 use crate::cut_usage::until_option;
 use crate::monitor_usage::{json_flag, monitor_command};
@@ -14,7 +15,7 @@ use crate::settings::Settings;
 use crate::shown::Shown;
 use crate::topic::Topic;
 use crate::watch_usage::watch_command;
-use clap::{Arg, ArgAction, ArgMatches, Command, Error};
+use clap::{Arg, ArgMatches, Command, Error};
 use std::alloc::{AllocError, Global};
 use std::convert::AsStr;
 
@@ -141,9 +142,7 @@ pub fn source_argument<'a>(alloc: Global) -> Arg<'a>
     ensures rule { rule_of result ≡ file_rule }
     ensures local { result.global ≡ false }
 {
-    Arg::new(alloc, "FILE")
-        .required(true)
-        .help("A source of I/O automata")
+    argument(alloc, "FILE", "A source of I/O automata")
 }
 
 /// The source or the object that a subcommand takes.
@@ -151,9 +150,11 @@ pub fn file_argument<'a>(alloc: Global) -> Arg<'a>
     ensures rule { rule_of result ≡ file_rule }
     ensures local { result.global ≡ false }
 {
-    Arg::new(alloc, "FILE")
-        .required(true)
-        .help("A source of I/O automata, or an object of one")
+    argument(
+        alloc,
+        "FILE",
+        "A source of I/O automata, or an object of one",
+    )
 }
 
 /// The object that a subcommand takes.
@@ -161,18 +162,14 @@ fn object_argument<'a>(alloc: Global) -> Arg<'a>
     ensures rule { rule_of result ≡ file_rule }
     ensures local { result.global ≡ false }
 {
-    Arg::new(alloc, "FILE")
-        .required(true)
-        .help("An object that `compile` made")
+    argument(alloc, "FILE", "An object that `compile` made")
 }
 
 fn out_argument<'a>(alloc: Global) -> Arg<'a>
     ensures rule { rule_of result ≡ out_rule }
     ensures local { result.global ≡ false }
 {
-    Arg::new(alloc, "OUT")
-        .required(true)
-        .help("The file to put the object in")
+    argument(alloc, "OUT", "The file to put the object in")
 }
 
 /// The name of a composition.
@@ -180,68 +177,67 @@ pub fn composition_option<'a>(alloc: Global) -> Arg<'a>
     ensures rule { rule_of result ≡ comp_rule }
     ensures local { result.global ≡ false }
 {
-    Arg::new(alloc, "comp")
-        .long("comp")
-        .value_name("NAME")
-        .help("The composition to take; without it, the last one")
+    option(
+        alloc,
+        "comp",
+        "NAME",
+        "The composition to take; without it, the last one",
+    )
 }
 
 fn log_flag<'a>(alloc: Global) -> Arg<'a>
     ensures rule { rule_of result ≡ log_rule }
     ensures local { result.global ≡ false }
 {
-    Arg::new(alloc, "log")
-        .long("log")
-        .action(ArgAction::SetTrue)
-        .help("Standard input is a log, which has to be of the composition's run")
+    flag(
+        alloc,
+        "log",
+        "Standard input is a log, which has to be of the composition's run",
+    )
 }
 
 fn invariants_flag<'a>(alloc: Global) -> Arg<'a>
     ensures rule { rule_of result ≡ invariants_rule }
     ensures local { result.global ≡ false }
 {
-    Arg::new(alloc, "invariants")
-        .long("invariants")
-        .action(ArgAction::SetTrue)
-        .help(
-            "With --log: the first invariant that the log's states break is printed in place of all else",
-        )
+    flag(
+        alloc,
+        "invariants",
+        "With --log: the first invariant that the log's states break is printed in place of all else",
+    )
 }
 
 fn compositions_flag<'a>(alloc: Global) -> Arg<'a>
     ensures rule { rule_of result ≡ compositions_rule }
     ensures local { result.global ≡ false }
 {
-    Arg::new(alloc, "compositions")
-        .long("compositions")
-        .action(ArgAction::SetTrue)
-        .help(
-            "Each composition of a source is composed, too, and the first that is refused is told",
-        )
+    flag(
+        alloc,
+        "compositions",
+        "Each composition of a source is composed, too, and the first that is refused is told",
+    )
 }
 
 fn states_flag<'a>(alloc: Global) -> Arg<'a>
     ensures rule { rule_of result ≡ states_rule }
     ensures local { result.global ≡ false }
 {
-    Arg::new(alloc, "states")
-        .long("states")
-        .action(ArgAction::SetTrue)
-        .help(
-            "Of a source: each variable follows with its value in the state that is reached last; not with --invariants",
-        )
+    flag(
+        alloc,
+        "states",
+        "Of a source: each variable follows with its value in the state that is reached last; not with --invariants",
+    )
 }
 
 fn enabled_flag<'a>(alloc: Global) -> Arg<'a>
     ensures rule { rule_of result ≡ enabled_rule }
     ensures local { result.global ≡ false }
 {
-    Arg::new(alloc, "enabled")
-        .long("enabled")
-        .action(ArgAction::SetTrue)
-        .help(
-            "Of a source: what is enabled in the state that is reached last follows, and the inputs; not with --invariants",
-        )
+    flag(
+        alloc,
+        "enabled",
+        "Of a source: what is enabled in the state that is reached last follows, and the inputs; not with --invariants",
+    )
 }
 
 fn text_argument<'a>(alloc: Global) -> Arg<'a>
@@ -258,10 +254,11 @@ pub fn explain_flag<'a>(alloc: Global) -> Arg<'a>
     ensures rule { rule_of result ≡ explain_rule }
     ensures local { result.global ≡ false }
 {
-    Arg::new(alloc, "explain")
-        .long("explain")
-        .action(ArgAction::SetTrue)
-        .help("Says more of the outcome on standard error: which line, why, and in which state")
+    flag(
+        alloc,
+        "explain",
+        "Says more of the outcome on standard error: which line, why, and in which state",
+    )
 }
 
 fn check_command<'a>(alloc: Global) -> Result<Command<'a>, AllocError>

@@ -4,6 +4,7 @@ ghost use Rattle.std.specs.Prelude.{◌≡◌, false, codes, IfOk};
 ghost use Rattle.clap.specs.Words.{app_of, new_app, rule_of};
 ghost use Rattle.ioa_request.specs.CommandLine.{IsLocal, alone_rule, inputs_rule, invariants_rule, keep_rule, log_rule, monitor_rule, reports_rule, resume_rule, run_app, seed_rule, seeds_rule, turns_rule, words_rule};
 
+use crate::arguments::{flag, option};
 use crate::monitor_usage::json_flag;
 use crate::request::{composition_option, explain_flag, file_argument, taking};
 use clap::{Arg, ArgAction, Command};
@@ -13,17 +14,21 @@ fn alone_flag<'a>(alloc: Global) -> Arg<'a>
     ensures rule { rule_of result ≡ alone_rule }
     ensures local { result.global ≡ false }
 {
-    Arg::new(alloc, "alone")
-        .long("alone")
-        .action(ArgAction::SetTrue)
-        .help("The workers take turns on one thread, in their order; without it, each has a thread")
+    flag(
+        alloc,
+        "alone",
+        "The workers take turns on one thread, in their order; without it, each has a thread",
+    )
 }
 
 fn turns_option<'a>(alloc: Global) -> Arg<'a>
     ensures rule { rule_of result ≡ turns_rule }
     ensures local { result.global ≡ false }
 {
-    Arg::new(alloc, "turns").long("turns").value_name("N").help(
+    option(
+        alloc,
+        "turns",
+        "N",
         "How many turns each worker has, up to 100000; without it, 1000",
     )
 }
@@ -32,7 +37,10 @@ fn seed_option<'a>(alloc: Global) -> Arg<'a>
     ensures rule { rule_of result ≡ seed_rule }
     ensures local { result.global ≡ false }
 {
-    Arg::new(alloc, "seed").long("seed").value_name("HEX").help(
+    option(
+        alloc,
+        "seed",
+        "HEX",
         "The key of the workers' random words, 64 hexadecimal digits; without it, zeros",
     )
 }
@@ -41,22 +49,24 @@ fn words_option<'a>(alloc: Global) -> Arg<'a>
     ensures rule { rule_of result ≡ words_rule }
     ensures local { result.global ≡ false }
 {
-    Arg::new(alloc, "words")
-        .long("words")
-        .value_name("WFILE")
-        .help("In place of a seed: a file with a line of words for each component")
+    option(
+        alloc,
+        "words",
+        "WFILE",
+        "In place of a seed: a file with a line of words for each component",
+    )
 }
 
 fn seeds_option<'a>(alloc: Global) -> Arg<'a>
     ensures rule { rule_of result ≡ seeds_rule }
     ensures local { result.global ≡ false }
 {
-    Arg::new(alloc, "seeds")
-        .long("seeds")
-        .value_name("A..B")
-        .help(
-            "With --alone: a run for each seed from number A to B, and its end on a line; then counts",
-        )
+    option(
+        alloc,
+        "seeds",
+        "A..B",
+        "With --alone: a run for each seed from number A to B, and its end on a line; then counts",
+    )
 }
 
 /// The names of the compositions that are asked whether they accept each run.
@@ -64,13 +74,13 @@ fn monitor_option<'a>(alloc: Global) -> Arg<'a>
     ensures rule { rule_of result ≡ monitor_rule }
     ensures local { result.global ≡ false }
 {
-    Arg::new(alloc, "monitor")
-        .long("monitor")
-        .value_name("SPEC")
-        .action(ArgAction::Append)
-        .help(
-            "With --seeds: a composition that is asked whether it accepts each run; once for each",
-        )
+    option(
+        alloc,
+        "monitor",
+        "SPEC",
+        "With --seeds: a composition that is asked whether it accepts each run; once for each",
+    )
+    .action(ArgAction::Append)
 }
 
 /// Whether each run is asked for the source's invariants.
@@ -78,12 +88,11 @@ fn invariants_flag<'a>(alloc: Global) -> Arg<'a>
     ensures rule { rule_of result ≡ invariants_rule }
     ensures local { result.global ≡ false }
 {
-    Arg::new(alloc, "invariants")
-        .long("invariants")
-        .action(ArgAction::SetTrue)
-        .help(
-            "With --seeds: it is asked whether the states of each run keep the source's invariants",
-        )
+    flag(
+        alloc,
+        "invariants",
+        "With --seeds: it is asked whether the states of each run keep the source's invariants",
+    )
 }
 
 /// The file for a log that is not accepted.
@@ -91,50 +100,54 @@ fn keep_option<'a>(alloc: Global) -> Arg<'a>
     ensures rule { rule_of result ≡ keep_rule }
     ensures local { result.global ≡ false }
 {
-    Arg::new(alloc, "keep")
-        .long("keep")
-        .value_name("KFILE")
-        .help("With --seeds: a file, in which the shortest log is put that is refused")
+    option(
+        alloc,
+        "keep",
+        "KFILE",
+        "With --seeds: a file, in which the shortest log is put that is refused",
+    )
 }
 
 fn inputs_option<'a>(alloc: Global) -> Arg<'a>
     ensures rule { rule_of result ≡ inputs_rule }
     ensures local { result.global ≡ false }
 {
-    Arg::new(alloc, "inputs")
-        .long("inputs")
-        .value_name("LFILE")
-        .help("A file with the list of inputs that the environment performs")
+    option(
+        alloc,
+        "inputs",
+        "LFILE",
+        "A file with the list of inputs that the environment performs",
+    )
 }
 
 fn resume_option<'a>(alloc: Global) -> Arg<'a>
     ensures rule { rule_of result ≡ resume_rule }
     ensures local { result.global ≡ false }
 {
-    Arg::new(alloc, "resume")
-        .long("resume")
-        .value_name("RFILE")
-        .help("A file with the log of a run, from whose end this one goes on")
+    option(
+        alloc,
+        "resume",
+        "RFILE",
+        "A file with the log of a run, from whose end this one goes on",
+    )
 }
 
 fn log_flag<'a>(alloc: Global) -> Arg<'a>
     ensures rule { rule_of result ≡ log_rule }
     ensures local { result.global ≡ false }
 {
-    Arg::new(alloc, "log")
-        .long("log")
-        .action(ArgAction::SetTrue)
-        .help("The log is printed in place of the trace")
+    flag(alloc, "log", "The log is printed in place of the trace")
 }
 
 fn reports_flag<'a>(alloc: Global) -> Arg<'a>
     ensures rule { rule_of result ≡ reports_rule }
     ensures local { result.global ≡ false }
 {
-    Arg::new(alloc, "reports")
-        .long("reports")
-        .action(ArgAction::SetTrue)
-        .help("What became of each worker's turns is told on standard error")
+    flag(
+        alloc,
+        "reports",
+        "What became of each worker's turns is told on standard error",
+    )
 }
 
 /// The subcommand `run`.

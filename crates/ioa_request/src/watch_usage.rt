@@ -4,6 +4,7 @@ ghost use Rattle.std.specs.Prelude.{◌≡◌, false, codes, IfOk};
 ghost use Rattle.clap.specs.Words.{app_of, new_app, rule_of};
 ghost use Rattle.ioa_request.specs.CommandLine.{IsLocal, first_rule, specification_rule, watch_app};
 
+use crate::arguments::{flag, option};
 use crate::monitor_usage::json_flag;
 use crate::request::{explain_flag, source_argument, taking};
 use clap::{Arg, ArgAction, Command};
@@ -14,24 +15,25 @@ fn specification_option<'a>(alloc: Global) -> Arg<'a>
     ensures rule { rule_of result ≡ specification_rule }
     ensures local { result.global ≡ false }
 {
-    Arg::new(alloc, "comp")
-        .long("comp")
-        .value_name("SPEC")
-        .required(true)
-        .action(ArgAction::Append)
-        .help("A composition that is a specification; once for each")
+    option(
+        alloc,
+        "comp",
+        "SPEC",
+        "A composition that is a specification; once for each",
+    )
+    .required(true)
+    .action(ArgAction::Append)
 }
 
 fn first_flag<'a>(alloc: Global) -> Arg<'a>
     ensures rule { rule_of result ≡ first_rule }
     ensures local { result.global ≡ false }
 {
-    Arg::new(alloc, "first")
-        .long("first")
-        .action(ArgAction::SetTrue)
-        .help(
-            "The first refusal ends it; without it, it goes on until each specification refused something",
-        )
+    flag(
+        alloc,
+        "first",
+        "The first refusal ends it; without it, it goes on until each specification refused something",
+    )
 }
 
 /// The subcommand `watch`.
