@@ -7,9 +7,10 @@ ghost use Rattle.ioa_compile.specs.Tables.{tabled};
 ghost use Rattle.ioa_system.specs.Participants.{taken};
 ghost use Rattle.ioa_system.specs.Systems.{slot_types, types_of};
 
-use crate::tests::made::{action, basic, parsed, program};
+use crate::tests::code::number_of;
+use crate::tests::made::{EMPTY, Got, action, basic, expect_so, parsed, program, set_up};
 use ioa_compile::Program;
-use ioa_node::{NodeState, state_values};
+use ioa_node::NodeState;
 use ioa_rows::{COUNTER, column, columns, is_row};
 use ioa_syntax::print;
 use ioa_system::{Moved, Step, System, participants, run_list, step_from};
@@ -51,27 +52,25 @@ fn is_printed_so(
     text: &str,
     wanted: Option<&str>,
 ) -> bool {
-    match read_action(alloc, types, text.as_bytes()).expect(rt, "memory") {
-        Some(action) => {
-            let printed = printed_copy(rt, alloc, types, &action);
-            wanted == Some(printed.as_str())
-        }
+    match read_action(alloc, types, text.as_bytes()).got(rt) {
+        Some(action) => wanted == Some(printed_copy(rt, alloc, types, &action).as_str()),
         None => wanted.is_none(),
     }
 }
 
 /// An equal of the action, as it is printed.
 fn printed_copy(rt: &impl Abort, alloc: Global, types: &Types, action: &Action) -> String {
-    let copy = action.try_copy(alloc).expect(rt, "memory");
-    print_action(alloc, types, &copy).expect(rt, "memory")
+    let copy = action.try_copy(alloc).got(rt);
+    print_action(alloc, types, &copy).got(rt)
 }
 
 #[test]
 fn reads_and_prints_actions(rt: HostRuntime) {
-    let types = basic(&rt, rt.alloc());
+    let alloc = rt.alloc();
+    let types = basic(&rt, alloc);
     for (text, wanted) in &ACTIONS {
-        let is_so = is_printed_so(&rt, rt.alloc(), &types, text, *wanted);
-        assert!(rt; is_so, "{text}");
+        let is_so = is_printed_so(&rt, alloc, &types, text, *wanted);
+        expect_so(&rt, is_so, text);
     }
 }
 
@@ -99,55 +98,45 @@ automaton A signature output r(d: Int) transitions output r propose d:=any(1) | 
 automaton A signature output r(d: Int) transitions output r propose d:=any((1)),e:=any(1+n) eff x:=1 | automaton A^signature^output r ( d : Int )^transitions^output r^propose d := any ( ( 1 ) )^, e := any ( 1 + n )^eff x := 1^ | automaton A signature output r(d: Int) transitions output r propose d := any((1)), e := 1 + n eff x := 1
 ";
 
-// The source is printed so, and the text is of an equal source, which the other one, or that of nothing, is not.
-fn expect_source(rt: &impl Abort, alloc: Global, source: &str, text: &str, other: &str) {
+// Whether the source is printed so, and the text is of an equal source, which the other one, or that of nothing, is not.
+fn is_source(rt: &impl Abort, alloc: Global, source: &str, text: &str, other: &str) -> bool {
     let source = parsed(rt, alloc, source.as_bytes());
-    let printed = print(alloc, &source).expect(rt, "memory");
-    assert!(rt; printed.as_slice() == text.as_bytes(), "{text}");
+    let printed = print(alloc, &source).got(rt);
     let again = parsed(rt, alloc, printed.as_slice());
-    assert!(rt; source.same(&again), "{text}");
     let other = parsed(rt, alloc, other.as_bytes());
-    assert!(rt; !source.same(&other) && !again.same(&other), "{text}");
+    printed.as_slice() == text.as_bytes()
+        && source.same(&again)
+        && !source.same(&other)
+        && !again.same(&other)
 }
 
 #[test]
 fn prints_what_is_parsed(rt: HostRuntime) {
+    let alloc = rt.alloc();
     for row in PRINTED.lines() {
         if is_row(row) {
-            let row = columns(rt.alloc(), row).expect(&rt, "a row");
+            let row = columns(alloc, row).expect(&rt, "a row");
             let (source, text, other) = (column(&row, 0), column(&row, 1), column(&row, 2));
-            expect_source(&rt, rt.alloc(), source, text, other);
+            expect_so(&rt, is_source(&rt, alloc, source, text, other), text);
         }
     }
 }
 
+/// Whether the first value of this type is the one that is wanted, of this type, and not of the other.
+fn is_first(rt: &impl Abort, alloc: Global, ty: Ty, other: Ty, wanted: &Value) -> bool
+    requires { ty.0 < 2 }
+{
+    let types = basic(rt, alloc);
+    let value = first(alloc, &types, ty).got(rt);
+    same(&value, wanted) && has_type(&types, &value, ty) && !has_type(&types, &value, other)
+}
+
 /// The first number, and the first truth value.
-fn first_values(rt: &impl Abort, alloc: Global) -> (Value, Value) {
-    let types = basic(rt, alloc);
-    let zero = first(alloc, &types, Ty::INT).expect(rt, "memory");
-    let no = first(alloc, &types, Ty::BOOL).expect(rt, "memory");
-    (zero, no)
-}
-
-// The value is the one that is wanted, of this type, and not of the other.
-fn expect_value(rt: &impl Abort, alloc: Global, value: &Value, wanted: &Value, ty: Ty, other: Ty) {
-    let types = basic(rt, alloc);
-    assert!(rt; same(value, wanted));
-    assert!(rt; has_type(&types, value, ty) && !has_type(&types, value, other));
-}
-
 #[test]
 fn types_have_first_values(rt: HostRuntime) {
-    let (zero, no) = first_values(&rt, rt.alloc());
-    expect_value(&rt, rt.alloc(), &zero, &Value::Num(0), Ty::INT, Ty::BOOL);
-    expect_value(
-        &rt,
-        rt.alloc(),
-        &no,
-        &Value::Truth(false),
-        Ty::BOOL,
-        Ty::INT,
-    );
+    let alloc = rt.alloc();
+    assert!(rt; is_first(&rt, alloc, Ty::INT, Ty::BOOL, &Value::Num(0)));
+    assert!(rt; is_first(&rt, alloc, Ty::BOOL, Ty::INT, &Value::Truth(false)));
 }
 
 // Equals of the states of the action's participants, in order.
@@ -165,8 +154,8 @@ fn lent(alloc: Global, system: &System<'_>, action: &Action) -> Result<Vec<NodeS
 
 /// What a step answers on equals of the participants' states, without the new states.
 fn step_on_copies(rt: &impl Abort, alloc: Global, system: &System<'_>, action: &Action) -> Step {
-    let states = lent(alloc, system, action).expect(rt, "memory");
-    let moved = step_from(alloc, system.program(), action, &states).expect(rt, "memory");
+    let states = lent(alloc, system, action).got(rt);
+    let moved = step_from(alloc, system.program(), action, &states).got(rt);
     answered(&moved)
 }
 
@@ -180,13 +169,11 @@ fn answered(moved: &Moved) -> Step {
     }
 }
 
-/// The number that is the first variable of the first component.
-fn number_in(rt: &impl Abort, alloc: Global, system: &System<'_>) -> Option<i64> {
-    let state = system.states().first().expect(rt, "a component");
-    let values = state_values(alloc, state).expect(rt, "memory");
-    match values.first() {
-        Some(Value::Num(number)) => Some(*number),
-        _ => None,
+/// Whether the only variable of the first component is this number.
+fn is_at(rt: &impl Abort, alloc: Global, system: &System<'_>, number: i64) -> bool {
+    match system.states().first() {
+        Some(state) => number_of(rt, alloc, state) == Some(number),
+        None => false,
     }
 }
 
@@ -200,51 +187,50 @@ static STEPS: [(&str, Step, i64); 6] = [
     ("tick(7)", Step::NotEnabled, 5),
 ];
 
-fn expect_step(
+/// Whether the action is answered so, on copies and by the system, and the number is this one then.
+fn is_step(
     rt: &impl Abort,
     alloc: Global,
     system: &mut System<'_>,
     action: &Action,
     wanted: &Step,
     count: i64,
-) {
-    let on_copies = step_on_copies(rt, alloc, system, action);
-    assert!(rt; on_copies == *wanted);
-    assert!(rt; system.step(action).expect(rt, "memory") == *wanted);
-    let number = number_in(rt, alloc, system);
-    assert!(rt; number == Some(count), "{count}");
+) -> bool {
+    step_on_copies(rt, alloc, system, action) == *wanted
+        && system.step(action).got(rt) == *wanted
+        && is_at(rt, alloc, system, count)
 }
 
 #[test]
 fn steps_a_program(rt: HostRuntime) {
-    let program = program(&rt, rt.alloc(), COUNTER, Some("One"));
-    let mut system = System::start(rt.alloc(), &program).expect(&rt, "memory");
+    let alloc = rt.alloc();
+    let program = program(&rt, alloc, COUNTER, Some("One"));
+    let mut system = System::start(alloc, &program).got(&rt);
     for (text, wanted, count) in &STEPS {
-        let action = action(&rt, rt.alloc(), program.types(), text);
-        expect_step(&rt, rt.alloc(), &mut system, &action, wanted, *count);
+        let action = action(&rt, alloc, program.types(), text);
+        let is_so = is_step(&rt, alloc, &mut system, &action, wanted, *count);
+        expect_so(&rt, is_so, text);
     }
 }
 
-/// What the next step answers from the states that these actions reach, and the number then.
-fn going_on(
+/// Whether the last action is performed from the states that the others reach, and the number is this one then.
+fn goes_on(
     rt: &impl Abort,
     alloc: Global,
     program: &Program,
-    actions: &[Action],
-    next: &Action,
-) -> (Step, Option<i64>) {
-    let run = run_list(alloc, program, actions).expect(rt, "memory");
+    script: &[Action],
+    number: i64,
+) -> bool {
+    let (last, before) = script.split_last().expect(rt, "an action");
+    let run = run_list(alloc, program, before).got(rt);
     let mut system = System::of(alloc, program, run.states);
-    let answer = system.step(next).expect(rt, "memory");
-    (answer, number_in(rt, alloc, &system))
+    let answer = system.step(last).got(rt);
+    answer == Step::Next && is_at(rt, alloc, &system, number)
 }
 
 #[test]
 fn a_system_goes_on_from_states(rt: HostRuntime) {
-    let program = program(&rt, rt.alloc(), COUNTER, Some("One"));
-    let first = action(&rt, rt.alloc(), program.types(), "tick(5)");
-    let second = action(&rt, rt.alloc(), program.types(), "tick(6)");
-    let (answer, number) = going_on(&rt, rt.alloc(), &program, &[first], &second);
-    assert!(rt; answer == Step::Next);
-    assert!(rt; number == Some(7));
+    let alloc = rt.alloc();
+    let setting = set_up(&rt, alloc, COUNTER, EMPTY, &["tick(5)", "tick(6)"]);
+    assert!(rt; goes_on(&rt, alloc, &setting.program, &setting.script, 7));
 }

@@ -3,7 +3,7 @@
 ghost use Rattle.std.specs.Prelude.{◌≡◌, [], IfSome};
 ghost use Rattle.ioa_code.specs.declared.instr.PartKind.TheVariants as kinds;
 
-use crate::tests::made::program;
+use crate::tests::made::{Got, expect_so, program};
 use ioa_code::Verified;
 use ioa_compile::Program;
 use ioa_node::{NodeState, Words, Workspace, propose, propose_with};
@@ -123,23 +123,23 @@ pub fn proposing(program: &Program, number: usize, place: usize) -> Option<(&Ver
     Some((code, &member.start))
 }
 
-/// The values that are proposed, and how many of the words are left.
-fn drawn(
+/// Whether this is proposed by the words, and so many of them are left, with a workspace and without one.
+fn is_drawn(
     rt: &impl Abort,
     alloc: Global,
     workspace: &mut Workspace,
     program: &Program,
-    place: Place,
-    words: &[u32],
-) -> (Option<Vec<Value>>, usize) {
-    let (code, state) = proposing(program, place.0, place.1).expect(rt, "a proposal");
-    let mut given = Given { words };
-    let values = propose(alloc, code, state, &mut given).expect(rt, "memory");
-    let mut again = Given { words };
-    let same = propose_with(alloc, workspace, code, state, &mut again).expect(rt, "memory");
-    assert!(rt; are_same(&values, &same));
-    assert!(rt; given.words.len() == again.words.len());
-    (values, given.words.len())
+    draw: &Draw,
+) -> bool {
+    let (code, state) = proposing(program, draw.1.0, draw.1.1).expect(rt, "a proposal");
+    let mut given = Given { words: draw.2 };
+    let values = propose(alloc, code, state, &mut given).got(rt);
+    let mut again = Given { words: draw.2 };
+    let same = propose_with(alloc, workspace, code, state, &mut again).got(rt);
+    are_same(&values, &same)
+        && given.words.len() == draw.4
+        && again.words.len() == draw.4
+        && are_wanted(rt, alloc, program, draw, values)
 }
 
 fn are_same(these: &Option<Vec<Value>>, those: &Option<Vec<Value>>) -> bool {
@@ -147,6 +147,20 @@ fn are_same(these: &Option<Vec<Value>>, those: &Option<Vec<Value>>) -> bool {
         (Some(these), Some(those)) => same_all(these, those),
         (None, None) => true,
         _ => false,
+    }
+}
+
+/// Whether these values are wanted.
+fn are_wanted(
+    rt: &impl Abort,
+    alloc: Global,
+    program: &Program,
+    draw: &Draw,
+    values: Option<Vec<Value>>,
+) -> bool {
+    match values {
+        Some(values) => draw.3 == Some(told_values(rt, alloc, program, draw.1, values).as_str()),
+        None => draw.3.is_none(),
     }
 }
 
@@ -160,29 +174,17 @@ fn told_values(
 ) -> String {
     let member = program.members().get(place.0).expect(rt, "a component");
     let entry = member.entries.get(place.1).expect(rt, "an entry");
-    let name = entry.name.clone().expect(rt, "memory");
-    let action = Action { name, vals };
-    print_action(alloc, program.types(), &action).expect(rt, "memory")
-}
-
-fn expect_draw(rt: &impl Abort, alloc: Global, workspace: &mut Workspace, draw: &Draw) {
-    let (source, place, words, wanted, left) = *draw;
-    let program = program(rt, alloc, source, None);
-    let (values, rest) = drawn(rt, alloc, workspace, &program, place, words);
-    assert!(rt; rest == left, "{source}");
-    match values {
-        Some(values) => {
-            let told = told_values(rt, alloc, &program, place, values);
-            assert!(rt; wanted == Some(told.as_str()), "{told}");
-        }
-        None => assert!(rt; wanted.is_none(), "{source}"),
-    }
+    let name = entry.name.clone().got(rt);
+    print_action(alloc, program.types(), &Action { name, vals }).got(rt)
 }
 
 #[test]
 fn words_decide_what_is_proposed(rt: HostRuntime) {
-    let mut workspace = Workspace::new(rt.alloc());
+    let alloc = rt.alloc();
+    let mut workspace = Workspace::new(alloc);
     for draw in &DRAWS {
-        expect_draw(&rt, rt.alloc(), &mut workspace, draw);
+        let program = program(&rt, alloc, draw.0, None);
+        let is_so = is_drawn(&rt, alloc, &mut workspace, &program, draw);
+        expect_so(&rt, is_so, draw.0);
     }
 }

@@ -1,6 +1,6 @@
 //! Programs that are made of given tables, each component with one entry without positions, which is enabled at any time and does nothing.
 
-use crate::tests::made::basic;
+use crate::tests::made::{Got, basic};
 use ioa_code::{Code, Env, Instr, PartKind, Verified, verify};
 use ioa_compile::{Entry, Member, Program, TableErr, Tables};
 use ioa_node::from_values;
@@ -47,62 +47,58 @@ static ROWS: [Row; 9] = [
     (&[], &[], Some(TableErr::Table)),
 ];
 
-/// Code of this kind over no variables and no positions, with the constant true.
-fn part(
-    rt: &impl Abort,
-    alloc: Global,
-    types: &Types,
-    kind: PartKind,
-    instrs: &[Instr],
-    end: &[Ty],
-) -> Verified {
-    let mut consts = Vec::new(alloc);
-    consts.push(Value::Truth(true)).expect(rt, "memory");
-    let instrs = instrs.to_vec(alloc).expect(rt, "memory");
+/// Code of this kind over no variables and no positions, with the constant true, which a precondition gives.
+fn part(rt: &impl Abort, alloc: Global, types: &Types, kind: PartKind) -> Verified {
+    let (instrs, result): (&[Instr], &[Ty]) = match kind {
+        PartKind::Pre => (&[Instr::Const(0)], &[Ty::BOOL]),
+        _ => (&[], &[]),
+    };
+    let code = Code {
+        instrs: instrs.to_vec(alloc).got(rt),
+        consts: vec![in alloc; Value::Truth(true)].got(rt),
+    };
     let env = Env {
         types,
         kind,
         slots: &[],
         arguments: &[],
-        result: end,
+        result,
     };
-    verify(alloc, Code { instrs, consts }, &env).expect(rt, "valid code")
+    verify(alloc, code, &env).expect(rt, "valid code")
 }
 
-/// An entry of this kind and name; an input has neither precondition nor proposal.
+/// The same of an entry of this kind: an input has neither precondition nor proposal.
+fn own_part(
+    rt: &impl Abort,
+    alloc: Global,
+    types: &Types,
+    entry: Kind,
+    kind: PartKind,
+) -> Option<Verified> {
+    match entry {
+        Kind::Input => None,
+        _ => Some(part(rt, alloc, types, kind)),
+    }
+}
+
+/// An entry of this kind and name.
 fn entry(rt: &impl Abort, alloc: Global, types: &Types, kind: Kind, name: &str) -> Entry {
-    let (pre, propose) = match kind {
-        Kind::Input => (None, None),
-        _ => (
-            Some(part(
-                rt,
-                alloc,
-                types,
-                PartKind::Pre,
-                &[Instr::Const(0)],
-                &[Ty::BOOL],
-            )),
-            Some(part(rt, alloc, types, PartKind::Propose, &[], &[])),
-        ),
-    };
     Entry {
         kind,
-        name: String::from_str(alloc, name).expect(rt, "memory"),
+        name: String::from_str(alloc, name).got(rt),
         positions: Vec::new(alloc),
-        pre,
-        propose,
-        effect: part(rt, alloc, types, PartKind::Eff, &[], &[]),
+        pre: own_part(rt, alloc, types, kind, PartKind::Pre),
+        propose: own_part(rt, alloc, types, kind, PartKind::Propose),
+        effect: part(rt, alloc, types, PartKind::Eff),
     }
 }
 
 fn member(rt: &impl Abort, alloc: Global, types: &Types, given: Given) -> Member {
-    let mut entries = Vec::new(alloc);
     let entry = entry(rt, alloc, types, given.1, given.2);
-    entries.push(entry).expect(rt, "memory");
     Member {
-        name: String::from_str(alloc, given.0).expect(rt, "memory"),
-        start: from_values(alloc, types, &[], &[]).expect(rt, "memory"),
-        entries,
+        name: String::from_str(alloc, given.0).got(rt),
+        start: from_values(alloc, types, &[], &[]).got(rt),
+        entries: vec![in alloc; entry].got(rt),
     }
 }
 
@@ -111,7 +107,7 @@ fn members(rt: &impl Abort, alloc: Global, types: &Types, given: &[Given]) -> Ve
     let mut members = Vec::new(alloc);
     for component in given {
         let member = member(rt, alloc, types, *component);
-        members.push(member).expect(rt, "memory");
+        members.push(member).got(rt);
     }
     members
 }
@@ -120,8 +116,8 @@ fn members(rt: &impl Abort, alloc: Global, types: &Types, given: &[Given]) -> Ve
 fn hidden(rt: &impl Abort, alloc: Global, names: &[&str]) -> Vec<String> {
     let mut hidden = Vec::new(alloc);
     for name in names {
-        let name = String::from_str(alloc, *name).expect(rt, "memory");
-        hidden.push(name).expect(rt, "memory");
+        let name = String::from_str(alloc, *name).got(rt);
+        hidden.push(name).got(rt);
     }
     hidden
 }
@@ -132,7 +128,7 @@ fn refusal(rt: &impl Abort, alloc: Global, given: &[Given], names: &[&str]) -> O
     let members = members(rt, alloc, &types, given);
     let tables = Tables {
         types,
-        name: String::from_str(alloc, "X").expect(rt, "memory"),
+        name: String::from_str(alloc, "X").got(rt),
         members,
         hidden: hidden(rt, alloc, names),
     };

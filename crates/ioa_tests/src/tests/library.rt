@@ -2,11 +2,11 @@
 
 ghost use Rattle.std.specs.Prelude.{◌≤ℤ◌, pos};
 
-use crate::tests::made::{parsed, program};
+use crate::tests::made::{Got, expect_text, of_library, parsed};
 use crate::tests::reached::{run_of, told_state};
 use ioa_check::check;
 use ioa_compose::compose;
-use ioa_tree::Same;
+use ioa_tree::{Declaration, Same};
 use std::alloc::Global;
 use std::process::Abort;
 
@@ -17,45 +17,52 @@ const SLID: &str =
 /// The sender's variables are these after the actions of the sliding window.
 #[test]
 fn the_window_moves(rt: HostRuntime) {
-    let library = str::from_utf8(ioa_links::text()).expect(&rt, "a text");
-    let program = program(&rt, rt.alloc(), library, Some("Sliding"));
-    let run = run_of(&rt, rt.alloc(), &program, SLID);
+    let alloc = rt.alloc();
+    let window = of_library(&rt, alloc, "Sliding");
+    let run = run_of(&rt, alloc, &window.program, SLID);
     let sender = run.states.first().expect(&rt, "a sender");
-    let told = told_state(&rt, rt.alloc(), program.types(), sender);
-    assert!(rt; told.as_str() == ", state(Ints[8], 2, 1)", "{told}");
+    let told = told_state(&rt, alloc, window.program.types(), sender);
+    expect_text(&rt, told.as_str(), ", state(Ints[8], 2, 1)");
+}
+
+/// Whether the declarations are some of those that are held, in their order.
+fn are_some_of(declarations: &[Declaration], held: &[Declaration]) -> bool {
+    let mut left = declarations;
+    for declaration in held {
+        if let [first, rest @ ..] = left
+            && first.same(declaration)
+        {
+            left = rest;
+        }
+    }
+    left.is_empty()
 }
 
 /// The declarations of Stenning's protocol are some of the library's, in its order.
 #[test]
 fn the_protocol_is_the_librarys(rt: HostRuntime) {
-    let library = parsed(&rt, rt.alloc(), ioa_links::text());
-    let protocol = ioa_links::stenning_tree(rt.alloc(), 4).expect(&rt, "memory");
-    let mut left = protocol.declarations();
-    assert!(rt; left.len() == 10);
-    for held in library.declarations() {
-        if let [first, rest @ ..] = left
-            && first.same(held)
-        {
-            left = rest;
-        }
-    }
-    assert!(rt; left.is_empty());
+    let alloc = rt.alloc();
+    let library = parsed(&rt, alloc, ioa_links::text());
+    let protocol = ioa_links::stenning_tree(alloc, 4).got(&rt);
+    let declarations = protocol.declarations();
+    assert!(rt; declarations.len() == 10 && are_some_of(declarations, library.declarations()));
 }
 
 /// The protocol is accepted, whatever its number of crashes.
 #[test]
 fn the_protocol_composes(rt: HostRuntime) {
-    composes(&rt, rt.alloc(), 0);
-    composes(&rt, rt.alloc(), 4);
-    composes(&rt, rt.alloc(), 1_000);
-    composes(&rt, rt.alloc(), i64::MAX);
+    let alloc = rt.alloc();
+    composes(&rt, alloc, 0);
+    composes(&rt, alloc, 4);
+    composes(&rt, alloc, 1_000);
+    composes(&rt, alloc, i64::MAX);
 }
 
 /// Sees that the protocol with so many crashes is accepted.
 fn composes(rt: &impl Abort, alloc: Global, crashes: i64)
     requires { pos 0 ≤ℤ crashes }
 {
-    let protocol = ioa_links::stenning_tree(alloc, crashes).expect(rt, "memory");
+    let protocol = ioa_links::stenning_tree(alloc, crashes).got(rt);
     let checked = check(alloc, protocol).expect(rt, "a checked source");
     let composed = compose(alloc, &checked, Some("Stenning")).expect(rt, "a composition");
     assert!(rt; composed.members().len() == 6);

@@ -4,7 +4,7 @@ ghost use Rattle.std.specs.Prelude.{◌++◌, ◌∷◌, []};
 ghost use Rattle.std.specs.Fmt.{decimal};
 ghost use Rattle.std.specs.String.{string_bytes};
 
-use crate::tests::made::{basic, log, program};
+use crate::tests::made::{Got, Setting, basic, expect_so, expect_text, program, set_up};
 use crate::tests::resumed::TICKED;
 use ioa_compile::Program;
 use ioa_log::{
@@ -12,7 +12,7 @@ use ioa_log::{
     read_log, replay_list, replay_log, write_entries, write_log,
 };
 use ioa_rows::{COUNTER, Dripping, KINDS, Slow};
-use ioa_system::{End, Log};
+use ioa_system::End;
 use ioa_value::{Action, OutOfMemory};
 use std::alloc::Global;
 use std::fmt::Write;
@@ -42,7 +42,7 @@ fn written(rt: &impl Abort, alloc: Global, text: &str) -> Vec<u8> {
     let mut input = Counted::new(text.as_bytes());
     let log = read_log(alloc, &types, &mut input).expect(rt, "a log");
     let mut output = Counted::new(Vec::new(alloc));
-    write_log(alloc, &types, &log, &mut output).expect(rt, "memory");
+    write_log(alloc, &types, &log, &mut output).got(rt);
     output.into_inner()
 }
 
@@ -50,7 +50,7 @@ fn written(rt: &impl Abort, alloc: Global, text: &str) -> Vec<u8> {
 fn writes_logs(rt: HostRuntime) {
     for (text, wanted) in &WRITTEN {
         let written = written(&rt, rt.alloc(), text);
-        assert!(rt; written.as_slice() == wanted.as_bytes(), "{text}");
+        expect_so(&rt, written.as_slice() == wanted.as_bytes(), text);
     }
 }
 
@@ -73,18 +73,15 @@ impl EntryWriter for Workers {
 
 #[test]
 fn hands_on_entries(rt: HostRuntime) {
-    let program = program(&rt, rt.alloc(), COUNTER, None);
+    let alloc = rt.alloc();
+    let program = program(&rt, alloc, COUNTER, None);
     let mut input = Counted::new(TICKED.as_bytes());
     let mut workers = Workers {
-        text: String::new(rt.alloc()),
+        text: String::new(alloc),
     };
-    let end = write_entries(rt.alloc(), &program, &mut input, &mut workers);
-    assert!(rt; end == Ok(End::Done(3)), "{end:?}");
-    assert!(rt;
-        workers.text.as_str() == "0\n0\n1\n",
-        "{}",
-        workers.text.as_str()
-    );
+    let end = write_entries(alloc, &program, &mut input, &mut workers);
+    assert!(rt; end == Ok(End::Done(3)));
+    expect_text(&rt, workers.text.as_str(), "0\n0\n1\n");
 }
 
 /// A call that reads a list or a log, or writes one.
@@ -117,14 +114,13 @@ static CALLS: [(Call, &str, &str); 7] = [
 
 /// Makes the call of the program, or of the log.
 fn called<W: OutputDevice>(
-    alloc: Global,
-    call: Call,
-    program: &Program,
-    log: &Log,
+    trial: Trial<'_>,
     input: &mut Counted<Dripping<'_>>,
     output: &mut W,
 ) -> Result<(), LogErr> {
-    match call {
+    let alloc = trial.alloc;
+    let Setting { program, log, .. } = trial.setting;
+    match trial.call {
         Call::ReplayList => list_replayed(alloc, program, input, output),
         Call::ReplayLog => log_replayed(alloc, program, input, output),
         Call::LogList => list_logged(alloc, program, input, output),
@@ -222,11 +218,10 @@ struct Ended {
 }
 
 /// A call of the program, or of the log, with what it reads and what it writes, on devices that fail in this way.
-#[derive(Drop)]
+#[derive(Clone, Copy)]
 struct Trial<'a> {
     alloc: Global,
-    program: &'a Program,
-    log: &'a Log,
+    setting: &'a Setting,
     call: Call,
     given: &'a [u8],
     written: &'a [u8],
@@ -248,26 +243,24 @@ impl Trial<'_> {
     }
 }
 
-/// What comes of the call on devices that take one byte a call, and fail after so many.
-fn tried(trial: &Trial<'_>, calls: (u64, u64)) -> Ended {
-    let mut input = Counted::new(Dripping {
+/// A reader of what the call reads, which fails after so many calls.
+fn reader<'a>(trial: Trial<'a>, left: u64) -> Counted<Dripping<'a>> {
+    Counted::new(Dripping {
         bytes: trial.given,
-        left: calls.0,
+        left,
         kind: trial.kind,
-    });
+    })
+}
+
+/// What comes of the call on devices that take one byte a call, and fail after so many.
+fn tried(trial: Trial<'_>, calls: (u64, u64)) -> Ended {
+    let mut input = reader(trial, calls.0);
     let mut output = Counted::new(Slow {
         held: Vec::new(trial.alloc),
         left: calls.1,
         kind: trial.kind,
     });
-    let answer = called(
-        trial.alloc,
-        trial.call,
-        trial.program,
-        trial.log,
-        &mut input,
-        &mut output,
-    );
+    let answer = called(trial, &mut input, &mut output);
     Ended {
         answer,
         failures: (input.failures(), output.failures()),
@@ -276,22 +269,11 @@ fn tried(trial: &Trial<'_>, calls: (u64, u64)) -> Ended {
 }
 
 /// Whether the call fails once where there is room for so many bytes, which are not enough, so that a write takes none.
-fn fills(rt: &impl Abort, trial: &Trial<'_>, room: usize) -> bool {
-    let mut held = vec![in trial.alloc; 0u8; room].expect(rt, "memory");
-    let mut input = Counted::new(Dripping {
-        bytes: trial.given,
-        left: u64::MAX,
-        kind: ErrorKind::Other,
-    });
+fn fills(rt: &impl Abort, trial: Trial<'_>, room: usize) -> bool {
+    let mut held = vec![in trial.alloc; 0u8; room].got(rt);
+    let mut input = reader(trial, u64::MAX);
     let mut output = Counted::new(held.as_mut_slice());
-    let answer = called(
-        trial.alloc,
-        trial.call,
-        trial.program,
-        trial.log,
-        &mut input,
-        &mut output,
-    );
+    let answer = called(trial, &mut input, &mut output);
     answer == Err(LogErr::Io) && output.failures() == 1 && input.failures() == 0
 }
 
@@ -306,13 +288,12 @@ fn is_failed(ended: &Ended, failures: (u64, u64), bytes: u64, whole: &[u8]) -> b
 /// The call fails after so many calls of its reader and of its writer, with so many failures of each, and has written so many bytes.
 fn expect_failure(
     rt: &impl Abort,
-    trial: &Trial<'_>,
+    trial: Trial<'_>,
     calls: (u64, u64),
     failures: (u64, u64),
     bytes: u64,
 ) {
-    let ended = tried(trial, calls);
-    let is_failed = is_failed(&ended, failures, bytes, trial.written);
+    let is_failed = is_failed(&tried(trial, calls), failures, bytes, trial.written);
     let (reads, writes) = calls;
     assert!(rt;
         is_failed,
@@ -322,17 +303,17 @@ fn expect_failure(
 }
 
 /// The call passes on devices that would fail at the next call, and no such call is made.
-fn expect_enough(rt: &impl Abort, trial: &Trial<'_>) {
+fn expect_enough(rt: &impl Abort, trial: Trial<'_>) {
     let ended = tried(trial, (trial.reads(), trial.writes()));
-    let is_passed = ended.answer == Ok(()) && ended.failures == (0, 0);
+    let is_passed = ended.answer == Ok(())
+        && ended.failures == (0, 0)
+        && ended.written.as_slice() == trial.written;
     assert!(rt; is_passed, "{:?}", trial.call);
-    let is_written = ended.written.as_slice() == trial.written;
-    assert!(rt; is_written, "{:?}", trial.call);
 }
 
 /// The call fails where a call of a device does, which is made once; what is written is then nothing, or what was taken before. On devices
 /// that would fail at the next call it passes. Each of their calls fails in turn, or each sixteenth.
-fn expect_failures(rt: &impl Abort, trial: &Trial<'_>, is_each: bool) {
+fn expect_failures(rt: &impl Abort, trial: Trial<'_>, is_each: bool) {
     for left in 0..trial.reads() {
         if is_each || left % 16 == 0 {
             expect_failure(rt, trial, (left, trial.writes()), (1, 0), 0);
@@ -347,7 +328,7 @@ fn expect_failures(rt: &impl Abort, trial: &Trial<'_>, is_each: bool) {
 }
 
 /// The call fails where there is room for less than it writes.
-fn expect_full(rt: &impl Abort, trial: &Trial<'_>) {
+fn expect_full(rt: &impl Abort, trial: Trial<'_>) {
     for room in 0..trial.written.len() {
         let is_full = fills(rt, trial, room);
         assert!(rt; is_full, "{:?} with {room} bytes of room", trial.call);
@@ -357,16 +338,14 @@ fn expect_full(rt: &impl Abort, trial: &Trial<'_>) {
 /// The call on devices that fail in this way.
 fn failing<'a>(
     alloc: Global,
-    program: &'a Program,
-    log: &'a Log,
+    setting: &'a Setting,
     row: &(Call, &'static str, &'static str),
     kind: ErrorKind,
 ) -> Trial<'a> {
     let (call, given, written) = *row;
     Trial {
         alloc,
-        program,
-        log,
+        setting,
         call,
         given: given.as_bytes(),
         written: written.as_bytes(),
@@ -374,16 +353,25 @@ fn failing<'a>(
     }
 }
 
+/// The call fails with its devices, in whatever way they fail.
+fn expect_kinds(
+    rt: &impl Abort,
+    alloc: Global,
+    setting: &Setting,
+    row: &(Call, &'static str, &'static str),
+) {
+    for kind in &KINDS {
+        let is_each = *kind == ErrorKind::Interrupted;
+        expect_failures(rt, failing(alloc, setting, row, *kind), is_each);
+    }
+}
+
 #[test]
 fn calls_fail_with_their_devices(rt: HostRuntime) {
     let alloc = rt.alloc();
-    let program = program(&rt, alloc, COUNTER, None);
-    let log = log(&rt, alloc, program.types(), TICKED);
+    let setting = set_up(&rt, alloc, COUNTER, TICKED, &[]);
     for row in &CALLS {
-        expect_full(&rt, &failing(alloc, &program, &log, row, ErrorKind::Other));
-        for kind in &KINDS {
-            let is_each = *kind == ErrorKind::Interrupted;
-            expect_failures(&rt, &failing(alloc, &program, &log, row, *kind), is_each);
-        }
+        expect_full(&rt, failing(alloc, &setting, row, ErrorKind::Other));
+        expect_kinds(&rt, alloc, &setting, row);
     }
 }

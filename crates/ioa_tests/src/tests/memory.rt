@@ -10,12 +10,12 @@ mod steps;
 mod texts;
 
 use crate::tests::code::SEQUENCES;
-use crate::tests::made;
+use crate::tests::made::{self, Got, Setting};
 use crate::tests::memory::hoard::{Hoard, STEP, Spare};
-use crate::tests::memory::lent::is_program;
+use crate::tests::memory::lent::is_setting;
 use crate::tests::memory::sources::THROWS;
 use crate::tests::objects::SUMS;
-use ioa_compile::Program;
+use crate::tests::resumed::TICKED;
 use ioa_rows::{COUNTER, GAME};
 use ioa_run::RunErr;
 use std::alloc::Global;
@@ -26,49 +26,51 @@ use std::thread::Threads;
 /// What came of a call that had so much memory.
 #[derive(Clone, Copy, Debug)]
 enum Came {
-    /// Memory was refused. Whether what was lent is as it was; of a run, in which a worker lacked memory, whether its log is accepted.
-    Wanting(bool),
-    /// A run did not begin, for this. Whether what was lent is as it was.
-    Unbegun(RunErr, bool),
-    /// It answered. Whether as it does with ample memory.
-    Answered(bool),
+    /// Memory was refused, and what was lent is as it was; of a run, in which a worker lacked memory, its log is accepted.
+    Wanting,
+    /// A run did not begin, for this, and what was lent is as it was.
+    Unbegun(RunErr),
+    /// It answered as it does with ample memory, and what was lent is as it was.
+    Answered,
+    /// None of these.
+    Wrong,
 }
 
 impl Came {
-    /// The same, where this holds, too, of what was lent.
-    fn and(self, is_kept: bool) -> Came {
-        match self {
-            Came::Wanting(was_kept) => Came::Wanting(was_kept && is_kept),
-            Came::Unbegun(error, was_kept) => Came::Unbegun(error, was_kept && is_kept),
-            Came::Answered(is_right) => Came::Answered(is_right && is_kept),
-        }
+    /// The same, where it is so.
+    fn and(self, is_so: bool) -> Came {
+        if is_so { self } else { Came::Wrong }
     }
 }
 
-/// How often a call was refused memory; of runs, how often a worker was in its turn, or the run before the start, or a thread.
+/// Whether a call was refused memory; of runs, whether a worker was in its turn, or the run before the start, or a thread.
 #[derive(Clone, Copy)]
 struct Refusals {
-    wanting: usize,
-    unbegun: usize,
-    threadless: usize,
+    wanting: bool,
+    unbegun: bool,
+    threadless: bool,
 }
 
 impl Refusals {
     const NONE: Refusals = Refusals {
-        wanting: 0,
-        unbegun: 0,
-        threadless: 0,
+        wanting: false,
+        unbegun: false,
+        threadless: false,
     };
 
-    /// One more, of a run that did not begin for this.
-    fn with(self, error: RunErr) -> Refusals {
-        match error {
-            RunErr::OutOfMemory => Refusals {
-                unbegun: self.unbegun.saturating_add(1),
+    /// One more.
+    fn with(self, came: Came) -> Refusals {
+        match came {
+            Came::Wanting => Refusals {
+                wanting: true,
+                ..self
+            },
+            Came::Unbegun(RunErr::OutOfMemory) => Refusals {
+                unbegun: true,
                 ..self
             },
             _ => Refusals {
-                threadless: self.threadless.saturating_add(1),
+                threadless: true,
                 ..self
             },
         }
@@ -78,11 +80,9 @@ impl Refusals {
     /// a thread may find its memory where one before it had its own.
     fn are_those_of(self, way: &Way) -> bool {
         match way {
-            Way::Alone => self.wanting > 0 && self.unbegun > 0 && self.threadless == 0,
-            Way::Threads => self.unbegun > 0 && (self.threadless > 0 || self.wanting > 0),
-            Way::Plain | Way::Reading => {
-                self.wanting > 0 && self.unbegun == 0 && self.threadless == 0
-            }
+            Way::Alone => self.wanting && self.unbegun && !self.threadless,
+            Way::Threads => self.unbegun && (self.threadless || self.wanting),
+            Way::Plain | Way::Reading => self.wanting && !self.unbegun && !self.threadless,
         }
     }
 }
@@ -127,9 +127,9 @@ enum Lone {
     InspectLog,
 }
 
-/// A call, with the source of the program that it takes.
+/// A call, with the source of the program that it takes, and the log and the actions that it may take.
 enum What {
-    Of(Call, &'static str),
+    Of(Call, &'static str, &'static str, &'static [&'static str]),
     Alone(Lone),
 }
 
@@ -144,6 +144,9 @@ enum Way {
 /// The name of a call, how it wants memory, and the call.
 type Row = (&'static str, Way, What);
 
+/// A log of nothing, as it is written.
+const NOTHING: &str = "{\"end\":\"done after 0\"}\n";
+
 static SOURCES: [Row; 4] = [
     ("Parse", Way::Plain, What::Alone(Lone::Parse)),
     ("Check", Way::Plain, What::Alone(Lone::Check)),
@@ -152,46 +155,105 @@ static SOURCES: [Row; 4] = [
 ];
 
 static STEPS: [Row; 10] = [
-    ("Verify", Way::Plain, What::Of(Call::Verify, SEQUENCES)),
+    (
+        "Verify",
+        Way::Plain,
+        What::Of(Call::Verify, SEQUENCES, NOTHING, &[]),
+    ),
     ("Enabled", Way::Plain, What::Alone(Lone::Enabled)),
     ("Effect", Way::Plain, What::Alone(Lone::Effect)),
-    ("Propose", Way::Plain, What::Of(Call::Propose, GAME)),
-    ("Step", Way::Plain, What::Of(Call::Step, GAME)),
-    ("StepByLoop", Way::Plain, What::Of(Call::StepByLoop, SUMS)),
-    ("RunList", Way::Plain, What::Of(Call::RunList, GAME)),
-    ("Replay", Way::Plain, What::Of(Call::Replay, COUNTER)),
-    ("Monitor", Way::Plain, What::Of(Call::Monitor, COUNTER)),
+    (
+        "Propose",
+        Way::Plain,
+        What::Of(Call::Propose, GAME, NOTHING, &[]),
+    ),
+    (
+        "Step",
+        Way::Plain,
+        What::Of(Call::Step, GAME, NOTHING, &["roll(5)"]),
+    ),
+    (
+        "StepByLoop",
+        Way::Plain,
+        What::Of(
+            Call::StepByLoop,
+            SUMS,
+            NOTHING,
+            &["put(2)", "put(5)", "fold"],
+        ),
+    ),
+    (
+        "RunList",
+        Way::Plain,
+        What::Of(
+            Call::RunList,
+            GAME,
+            NOTHING,
+            &["roll(5)", "down", "roll(1)"],
+        ),
+    ),
+    (
+        "Replay",
+        Way::Plain,
+        What::Of(Call::Replay, COUNTER, TICKED, &[]),
+    ),
+    (
+        "Monitor",
+        Way::Plain,
+        What::Of(
+            Call::Monitor,
+            COUNTER,
+            NOTHING,
+            &["tick(5)", "other", "tick(7)"],
+        ),
+    ),
     ("Invariants", Way::Plain, What::Alone(Lone::Invariants)),
 ];
 
 static BOARDS: [Row; 5] = [
-    ("Make", Way::Plain, What::Of(Call::Make, GAME)),
-    ("Commit", Way::Plain, What::Of(Call::Commit, COUNTER)),
-    ("Event", Way::Plain, What::Of(Call::Event, COUNTER)),
-    ("Resume", Way::Plain, What::Of(Call::Resume, COUNTER)),
+    ("Make", Way::Plain, What::Of(Call::Make, GAME, NOTHING, &[])),
+    (
+        "Commit",
+        Way::Plain,
+        What::Of(Call::Commit, COUNTER, NOTHING, &[]),
+    ),
+    (
+        "Event",
+        Way::Plain,
+        What::Of(Call::Event, COUNTER, NOTHING, &[]),
+    ),
+    (
+        "Resume",
+        Way::Plain,
+        What::Of(Call::Resume, COUNTER, TICKED, &[]),
+    ),
     (
         "ResumeRoom",
         Way::Plain,
-        What::Of(Call::ResumeRoom, COUNTER),
+        What::Of(Call::ResumeRoom, COUNTER, TICKED, &["reset"]),
     ),
 ];
 
 static RUNS: [Row; 4] = [
-    ("RunAlone", Way::Alone, What::Of(Call::RunAlone, COUNTER)),
+    (
+        "RunAlone",
+        Way::Alone,
+        What::Of(Call::RunAlone, COUNTER, NOTHING, &[]),
+    ),
     (
         "ResumeAlone",
         Way::Alone,
-        What::Of(Call::ResumeAlone, COUNTER),
+        What::Of(Call::ResumeAlone, COUNTER, TICKED, &[]),
     ),
     (
         "RunThreads",
         Way::Threads,
-        What::Of(Call::RunThreads, COUNTER),
+        What::Of(Call::RunThreads, COUNTER, NOTHING, &[]),
     ),
     (
         "ResumeThreads",
         Way::Threads,
-        What::Of(Call::ResumeThreads, COUNTER),
+        What::Of(Call::ResumeThreads, COUNTER, TICKED, &[]),
     ),
 ];
 
@@ -199,26 +261,38 @@ static TEXTS: [Row; 9] = [
     (
         "WriteObject",
         Way::Plain,
-        What::Of(Call::WriteObject, THROWS),
+        What::Of(Call::WriteObject, THROWS, NOTHING, &[]),
     ),
     ("ReadObject", Way::Plain, What::Alone(Lone::ReadObject)),
-    ("WriteLog", Way::Plain, What::Of(Call::WriteLog, COUNTER)),
-    ("ReadLog", Way::Reading, What::Of(Call::ReadLog, COUNTER)),
+    (
+        "WriteLog",
+        Way::Plain,
+        What::Of(Call::WriteLog, COUNTER, TICKED, &[]),
+    ),
+    (
+        "ReadLog",
+        Way::Reading,
+        What::Of(Call::ReadLog, COUNTER, NOTHING, &[]),
+    ),
     (
         "ReplayList",
         Way::Reading,
-        What::Of(Call::ReplayList, COUNTER),
+        What::Of(Call::ReplayList, COUNTER, NOTHING, &[]),
     ),
     (
         "ReplayLog",
         Way::Reading,
-        What::Of(Call::ReplayLog, COUNTER),
+        What::Of(Call::ReplayLog, COUNTER, NOTHING, &[]),
     ),
-    ("LogList", Way::Reading, What::Of(Call::LogList, COUNTER)),
+    (
+        "LogList",
+        Way::Reading,
+        What::Of(Call::LogList, COUNTER, NOTHING, &[]),
+    ),
     (
         "MonitorLog",
         Way::Reading,
-        What::Of(Call::MonitorLog, COUNTER),
+        What::Of(Call::MonitorLog, COUNTER, NOTHING, &[]),
     ),
     ("InspectLog", Way::Reading, What::Alone(Lone::InspectLog)),
 ];
@@ -257,10 +331,10 @@ fn grown(turn: usize) -> usize {
 
 /// All memory but this.
 fn all_but(rt: &impl Abort, alloc: Global, spare: Spare) -> Hoard {
-    Hoard::all_but(alloc, spare).expect(rt, "memory")
+    Hoard::all_but(alloc, spare).got(rt)
 }
 
-/// What comes of the call with so much memory. A program that it takes stays.
+/// What comes of the call with so much memory. What it is lent stays.
 fn called<H: Abort + Threads + Wait + Sync>(
     rt: &H,
     alloc: Global,
@@ -268,10 +342,10 @@ fn called<H: Abort + Threads + Wait + Sync>(
     spare: Spare,
 ) -> Came {
     match what {
-        What::Of(call, source) => {
-            let program = made::program(rt, alloc, source, None);
-            let came = called_on(rt, alloc, call, &program, spare);
-            came.and(is_program(rt, alloc, &program, source))
+        What::Of(call, source, log, texts) => {
+            let setting = made::set_up(rt, alloc, source, log, texts);
+            let came = called_on(rt, alloc, call, &setting, spare);
+            came.and(is_setting(rt, alloc, &setting, source, log, texts))
         }
         What::Alone(call) => called_alone(rt, alloc, call, spare),
     }
@@ -292,38 +366,38 @@ fn called_alone(rt: &impl Abort, alloc: Global, call: &Lone, spare: Spare) -> Ca
     }
 }
 
-/// The same of one that takes this program.
+/// The same of one that takes a program.
 fn called_on<H: Abort + Threads + Wait + Sync>(
     rt: &H,
     alloc: Global,
     call: &Call,
-    program: &Program,
+    lent: &Setting,
     spare: Spare,
 ) -> Came {
     match call {
-        Call::Verify => steps::verified(rt, alloc, program, spare),
-        Call::Propose => steps::proposed(rt, alloc, program, spare),
-        Call::Step => steps::stepped(rt, alloc, program, spare),
-        Call::StepByLoop => steps::folded(rt, alloc, program, spare),
-        Call::RunList => steps::run(rt, alloc, program, spare),
-        Call::Replay => steps::replayed(rt, alloc, program, spare),
-        Call::Monitor => steps::monitored(rt, alloc, program, spare),
-        Call::Make => boards::made(rt, alloc, program, spare),
-        Call::Commit => boards::committed(rt, alloc, program, spare),
-        Call::Event => boards::answered(rt, alloc, program, spare),
-        Call::Resume => boards::resumed(rt, alloc, program, spare),
-        Call::ResumeRoom => boards::room_resumed(rt, alloc, program, spare),
-        Call::RunAlone => runs::alone(rt, alloc, program, spare),
-        Call::ResumeAlone => runs::resumed_alone(rt, alloc, program, spare),
-        Call::RunThreads => runs::on_threads(rt, alloc, program, spare),
-        Call::ResumeThreads => runs::resumed_on_threads(rt, alloc, program, spare),
-        Call::WriteObject => texts::object_written(rt, alloc, program, spare),
-        Call::WriteLog => texts::log_written(rt, alloc, program, spare),
-        Call::ReadLog => texts::log_read(rt, alloc, program, spare),
-        Call::ReplayList => texts::list_replayed(rt, alloc, program, spare),
-        Call::ReplayLog => texts::log_replayed(rt, alloc, program, spare),
-        Call::LogList => texts::list_logged(rt, alloc, program, spare),
-        Call::MonitorLog => texts::log_monitored(rt, alloc, program, spare),
+        Call::Verify => steps::verified(rt, alloc, lent, spare),
+        Call::Propose => steps::proposed(rt, alloc, lent, spare),
+        Call::Step => steps::stepped(rt, alloc, lent, &steps::ROLLED, spare),
+        Call::StepByLoop => steps::stepped(rt, alloc, lent, &steps::FOLDED, spare),
+        Call::RunList => steps::run(rt, alloc, lent, spare),
+        Call::Replay => steps::replayed(rt, alloc, lent, spare),
+        Call::Monitor => steps::monitored(rt, alloc, lent, spare),
+        Call::Make => boards::made(rt, alloc, lent, spare),
+        Call::Commit => boards::committed(rt, alloc, lent, spare),
+        Call::Event => boards::answered(rt, alloc, lent, spare),
+        Call::Resume => boards::resumed(rt, alloc, lent, spare),
+        Call::ResumeRoom => boards::room_resumed(rt, alloc, lent, spare),
+        Call::RunAlone => runs::alone(rt, alloc, lent, spare),
+        Call::ResumeAlone => runs::resumed_alone(rt, alloc, lent, spare),
+        Call::RunThreads => runs::on_threads(rt, alloc, lent, spare),
+        Call::ResumeThreads => runs::resumed_on_threads(rt, alloc, lent, spare),
+        Call::WriteObject => texts::object_written(rt, alloc, lent, spare),
+        Call::WriteLog => texts::log_written(rt, alloc, lent, spare),
+        Call::ReadLog => texts::log_read(rt, alloc, lent, spare),
+        Call::ReplayList => texts::list_replayed(rt, alloc, lent, spare),
+        Call::ReplayLog => texts::log_replayed(rt, alloc, lent, spare),
+        Call::LogList => texts::list_logged(rt, alloc, lent, spare),
+        Call::MonitorLog => texts::log_monitored(rt, alloc, lent, spare),
     }
 }
 
@@ -332,23 +406,18 @@ fn expect_answer<H: Abort + Threads + Wait + Sync>(rt: &H, alloc: Global, row: &
     let (name, way, what) = row;
     let mut refusals = Refusals::NONE;
     for turn in 0..MOST {
-        match called(rt, alloc, what, left(way, turn)) {
-            Came::Wanting(is_kept) => {
-                assert!(rt; is_kept, "{name}, in turn {turn}");
-                refusals.wanting = refusals.wanting.saturating_add(1);
-            }
-            Came::Unbegun(error, is_kept) => {
-                assert!(rt; is_kept, "{name}, in turn {turn}");
-                refusals = refusals.with(error);
-            }
-            Came::Answered(is_right) => {
-                assert!(rt;
-                    is_right && refusals.are_those_of(way),
-                    "{name}, in turn {turn}"
-                );
-                return;
-            }
+        let came = called(rt, alloc, what, left(way, turn));
+        let is_over = matches!(came, Came::Answered);
+        let is_right = match came {
+            Came::Answered => refusals.are_those_of(way),
+            Came::Wrong => false,
+            _ => true,
+        };
+        assert!(rt; is_right, "{name}, in turn {turn}");
+        if is_over {
+            return;
         }
+        refusals = refusals.with(came);
     }
     panic!(rt; "{name} is refused memory each time");
 }
@@ -391,16 +460,17 @@ fn texts_are_refused_memory(rt: HostRuntime) {
 fn expect_ample<H: Abort + Threads + Wait + Sync>(rt: &H, alloc: Global, rows: &[Row]) {
     for (name, _, what) in rows {
         let came = called(rt, alloc, what, Spare::All);
-        assert!(rt; matches!(came, Came::Answered(true)), "{name}: {came:?}");
+        assert!(rt; matches!(came, Came::Answered), "{name}: {came:?}");
     }
 }
 
 /// With all the memory that there is each call answers. `tools/refused_calls` refuses it a request, or all from one on, and reads what is told here.
 #[test]
 fn calls_answer(rt: HostRuntime) {
-    expect_ample(&rt, rt.alloc(), &SOURCES);
-    expect_ample(&rt, rt.alloc(), &STEPS);
-    expect_ample(&rt, rt.alloc(), &BOARDS);
-    expect_ample(&rt, rt.alloc(), &RUNS);
-    expect_ample(&rt, rt.alloc(), &TEXTS);
+    let alloc = rt.alloc();
+    expect_ample(&rt, alloc, &SOURCES);
+    expect_ample(&rt, alloc, &STEPS);
+    expect_ample(&rt, alloc, &BOARDS);
+    expect_ample(&rt, alloc, &RUNS);
+    expect_ample(&rt, alloc, &TEXTS);
 }

@@ -1,6 +1,6 @@
 //! Objects: they are whole, and bytes of which one is another are no object or the one object of another program, which is performed.
 
-use crate::tests::made;
+use crate::tests::made::{self, Got, expect_so};
 use ioa_compile::Program;
 use ioa_log::{Counted, replay_list};
 use ioa_object::{ObjErr, read_object, write_object};
@@ -40,7 +40,7 @@ const FOLDED: &str = "put(2)\nput(5)\nfold\n";
 /// The object of the source's program.
 fn object(rt: &impl Abort, alloc: Global, source: &str) -> Vec<u8> {
     let program = made::program(rt, alloc, source, None);
-    write_object(alloc, &program).expect(rt, "memory")
+    write_object(alloc, &program).got(rt)
 }
 
 /// Whether the program performs the list up to an end.
@@ -54,7 +54,7 @@ fn performs(alloc: Global, program: &Program, list: &str) -> bool {
 fn is_object(rt: &impl Abort, alloc: Global, bytes: &[u8], list: &str) -> Option<bool> {
     match read_object(alloc, bytes) {
         Ok(program) => {
-            let again = write_object(alloc, &program).expect(rt, "memory");
+            let again = write_object(alloc, &program).got(rt);
             Some(again.as_slice() == bytes && performs(alloc, &program, list))
         }
         Err(_) => None,
@@ -63,21 +63,18 @@ fn is_object(rt: &impl Abort, alloc: Global, bytes: &[u8], list: &str) -> Option
 
 /// Of how many values of this byte the bytes are an object. Each other one is refused, and none is the object's own.
 fn taken_at(rt: &impl Abort, alloc: Global, object: &[u8], place: usize, list: &str) -> u32 {
-    let mut bytes = Vec::from_slice(alloc, object).expect(rt, "memory");
+    let mut bytes = Vec::from_slice(alloc, object).got(rt);
     let mut taken: u32 = 0;
     for byte in 0..=255 {
         if let Some(changed) = bytes.get_mut(place) {
             *changed = byte;
         }
-        match is_object(rt, alloc, &bytes, list) {
-            Some(is_right) => {
-                assert!(rt; is_right, "{place} {byte}");
-                taken = taken.saturating_add(1);
-            }
-            None => {
-                assert!(rt; bytes.as_slice() != object, "{place} {byte}");
-            }
-        }
+        let (is_right, count) = match is_object(rt, alloc, &bytes, list) {
+            Some(is_right) => (is_right, 1),
+            None => (bytes.as_slice() != object, 0),
+        };
+        assert!(rt; is_right, "{place} {byte}");
+        taken = taken.saturating_add(count);
     }
     taken
 }
@@ -98,8 +95,9 @@ fn each_byte_is_changed(rt: HostRuntime) {
 
 #[test]
 fn each_byte_of_a_loop_is_changed(rt: HostRuntime) {
-    let sums = object(&rt, rt.alloc(), SUMS);
-    expect_changes(&rt, rt.alloc(), &sums, FOLDED);
+    let alloc = rt.alloc();
+    let sums = object(&rt, alloc, SUMS);
+    expect_changes(&rt, alloc, &sums, FOLDED);
 }
 
 /// Whether no part of the bytes that ends before them is an object, but is told to be none or a cut one.
@@ -118,23 +116,32 @@ fn is_cut(alloc: Global, bytes: &[u8]) -> bool {
     true
 }
 
-/// The bytes are an object, and cut anywhere are told to be no object or a cut one.
-fn expect_whole(rt: &impl Abort, alloc: Global, bytes: &[u8]) {
-    assert!(rt; is_cut(alloc, bytes));
+/// Whether the bytes are an object, and cut anywhere are told to be no object or a cut one.
+fn is_whole(rt: &impl Abort, alloc: Global, bytes: &[u8]) -> bool {
     let read = read_object(alloc, bytes).expect(rt, "an object");
-    let again = write_object(alloc, &read).expect(rt, "memory");
-    assert!(rt; again.as_slice() == bytes);
+    let again = write_object(alloc, &read).got(rt);
+    again.as_slice() == bytes && is_cut(alloc, bytes)
+}
+
+/// The same of the object of the source's program, of which that program is read.
+fn expect_whole(rt: &impl Abort, alloc: Global, source: &str) {
+    let program = made::program(rt, alloc, source, None);
+    let bytes = write_object(alloc, &program).got(rt);
+    let read = read_object(alloc, &bytes).expect(rt, "an object");
+    expect_so(
+        rt,
+        read.same(&program) && is_whole(rt, alloc, &bytes),
+        source,
+    );
 }
 
 #[test]
 fn objects_are_whole(rt: HostRuntime) {
-    expect_whole(&rt, rt.alloc(), &SMALLEST);
-    for source in [COUNTER, STORE, SUMS] {
-        let bytes = object(&rt, rt.alloc(), source);
-        expect_whole(&rt, rt.alloc(), &bytes);
-        let read = read_object(rt.alloc(), &bytes).expect(&rt, "an object");
-        assert!(rt; read.same(&made::program(&rt, rt.alloc(), source, None)));
-    }
+    let alloc = rt.alloc();
+    assert!(rt; is_whole(&rt, alloc, &SMALLEST));
+    expect_whole(&rt, alloc, COUNTER);
+    expect_whole(&rt, alloc, STORE);
+    expect_whole(&rt, alloc, SUMS);
 }
 
 /// A source, the version of its object, another one, and why the object is refused with that. The second version is that of objects with a
@@ -148,15 +155,26 @@ static VERSIONS: [(&str, u8, u8, ObjErr); 5] = [
     (SUMS, 2, 3, ObjErr::Version),
 ];
 
+/// Whether the source's object has this version, and with the other one is refused so.
+fn is_refused(
+    rt: &impl Abort,
+    alloc: Global,
+    source: &str,
+    version: u8,
+    other: u8,
+    wanted: ObjErr,
+) -> bool {
+    let mut bytes = object(rt, alloc, source);
+    let byte = bytes.get_mut(4).expect(rt, "a version");
+    let is_own = *byte == version;
+    *byte = other;
+    is_own && read_object(alloc, &bytes).err() == Some(wanted)
+}
+
 #[test]
 fn versions_are_needed(rt: HostRuntime) {
     for (source, version, other, wanted) in &VERSIONS {
-        let mut bytes = object(&rt, rt.alloc(), source);
-        assert!(rt; bytes.get(4) == Some(version), "{source}");
-        if let Some(byte) = bytes.get_mut(4) {
-            *byte = *other;
-        }
-        let error = read_object(rt.alloc(), &bytes).err();
-        assert!(rt; error == Some(*wanted), "{source}");
+        let is_so = is_refused(&rt, rt.alloc(), source, *version, *other, *wanted);
+        expect_so(&rt, is_so, source);
     }
 }

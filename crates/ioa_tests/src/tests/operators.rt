@@ -4,7 +4,7 @@ ghost use Rattle.std.specs.Prelude.{◌≡◌, true, map};
 ghost use Rattle.ioa_value.specs.Operators.{Takes};
 ghost use Rattle.ioa_value.specs.Plain.{plain};
 
-use crate::tests::made::{action, parsed};
+use crate::tests::made::{Got, action, expect_so, parsed};
 use ioa_check::check;
 use ioa_rows::{column, columns};
 use ioa_value::{Action, Op, Ty, Types, Value, apply, print_action};
@@ -209,20 +209,19 @@ fn takes(types: &Types, op: Op, operands: &[Value]) -> bool
 /// The value, as an action's without a name.
 fn nameless(rt: &impl Abort, alloc: Global, types: &Types, value: Value) -> String {
     let mut vals = Vec::new(alloc);
-    vals.push(value).expect(rt, "memory");
+    vals.push(value).got(rt);
     let name = String::new(alloc);
-    print_action(alloc, types, &Action { name, vals }).expect(rt, "memory")
+    print_action(alloc, types, &Action { name, vals }).got(rt)
 }
 
-/// What an operator gives of the values of the action, or the fault.
-fn given(rt: &impl Abort, alloc: Global, types: &Types, op: Op, operands: &str) -> String {
-    let action = action(rt, alloc, types, operands);
-    assert!(rt; takes(types, op, &action.vals));
-    match apply(alloc, types, op, &action.vals).expect(rt, "memory") {
+/// What an operator gives of these operands, or the fault.
+fn given(rt: &impl Abort, alloc: Global, types: &Types, op: Op, operands: &[Value]) -> String {
+    assert!(rt; takes(types, op, operands));
+    match apply(alloc, types, op, operands).got(rt) {
         Ok(value) => nameless(rt, alloc, types, value),
         Err(fault) => {
             let number = fault.number();
-            format!(in alloc; "fault {number}").expect(rt, "memory")
+            format!(in alloc; "fault {number}").got(rt)
         }
     }
 }
@@ -230,19 +229,18 @@ fn given(rt: &impl Abort, alloc: Global, types: &Types, op: Op, operands: &str) 
 fn expect_rows(rt: &impl Abort, alloc: Global, types: &Types, op: Op, rows: &str) {
     for row in rows.lines() {
         let columns = columns(alloc, row).expect(rt, "a row");
-        let given = given(rt, alloc, types, op, column(&columns, 0));
-        assert!(rt;
-            given.as_str() == column(&columns, 1),
-            "{op:?} {row} gives {given}"
-        );
+        let action = action(rt, alloc, types, column(&columns, 0));
+        let given = given(rt, alloc, types, op, &action.vals);
+        expect_so(rt, given.as_str() == column(&columns, 1), row);
     }
 }
 
 #[test]
 fn operators_give_values_and_faults(rt: HostRuntime) {
-    let source = parsed(&rt, rt.alloc(), DECLARED.as_bytes());
-    let checked = check(rt.alloc(), source).expect(&rt, "a checked source");
+    let alloc = rt.alloc();
+    let source = parsed(&rt, alloc, DECLARED.as_bytes());
+    let checked = check(alloc, source).expect(&rt, "a checked source");
     for (op, rows) in &OPERATORS {
-        expect_rows(&rt, rt.alloc(), checked.types(), *op, rows);
+        expect_rows(&rt, alloc, checked.types(), *op, rows);
     }
 }

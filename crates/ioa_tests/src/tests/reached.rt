@@ -1,6 +1,6 @@
 //! Programs in memory: the states that lists of actions reach, and who performs an action.
 
-use crate::tests::made::{action, program};
+use crate::tests::made::{Got, action, expect_so, expect_text, program};
 use ioa_compile::Program;
 use ioa_node::{NodeState, state_values};
 use ioa_rows::COUNTER;
@@ -94,10 +94,10 @@ static RUNS: [(&str, &str, &str); 10] = [
 /// The values of a state, told as those of an action.
 pub fn told_state(rt: &impl Abort, alloc: Global, types: &Types, state: &NodeState) -> String {
     let values = Action {
-        name: String::from_str(alloc, ", state").expect(rt, "memory"),
-        vals: state_values(alloc, state).expect(rt, "memory"),
+        name: String::from_str(alloc, ", state").got(rt),
+        vals: state_values(alloc, state).got(rt),
     };
-    print_action(alloc, types, &values).expect(rt, "memory")
+    print_action(alloc, types, &values).got(rt)
 }
 
 /// The values of these states.
@@ -105,38 +105,32 @@ pub fn told_states(rt: &impl Abort, alloc: Global, types: &Types, states: &[Node
     let mut text = String::new(alloc);
     for state in states {
         let told = told_state(rt, alloc, types, state);
-        text.push_str(told.as_str()).expect(rt, "memory");
+        text.push_str(told.as_str()).got(rt);
     }
     text
 }
 
 /// The run of the list that is spelled so.
 pub fn run_of(rt: &impl Abort, alloc: Global, program: &Program, list: &str) -> Run {
-    let read = read_list(alloc, program.types(), list.as_bytes()).expect(rt, "memory");
+    let read = read_list(alloc, program.types(), list.as_bytes()).got(rt);
     let actions = read.ok().expect(rt, "a list");
-    run_list(alloc, program, &actions).expect(rt, "memory")
+    run_list(alloc, program, &actions).got(rt)
 }
 
 fn reached(rt: &impl Abort, alloc: Global, source: &str, list: &str) -> String {
     let program = program(rt, alloc, source, None);
     let run = run_of(rt, alloc, &program, list);
     let states = told_states(rt, alloc, program.types(), &run.states);
-    let Run {
-        performed,
-        end,
-        trace,
-        states: _,
-    } = &run;
-    let shown = trace.len();
+    let (end, performed, shown) = (run.end, run.performed, run.trace.len());
     let told = format!(in alloc; "{end}, {performed} performed, {shown} shown{states}");
-    told.expect(rt, "memory")
+    told.got(rt)
 }
 
 #[test]
 fn runs_reach_their_states(rt: HostRuntime) {
     for (source, list, wanted) in &RUNS {
         let told = reached(&rt, rt.alloc(), source, list);
-        assert!(rt; told.as_str() == *wanted, "{told}");
+        expect_text(&rt, told.as_str(), wanted);
     }
 }
 
@@ -151,7 +145,7 @@ static ENDS: [(End, usize); 4] = [
 #[test]
 fn ends_count_actions(rt: HostRuntime) {
     for (end, count) in &ENDS {
-        assert!(rt; end.performed() == *count, "{end}");
+        assert!(rt; end.performed() == *count);
     }
 }
 
@@ -172,18 +166,17 @@ static OWNERS: [(&str, &str, Performers); 7] = [
 fn performers(rt: &impl Abort, alloc: Global, source: &str, text: &str) -> Performers {
     let program = program(rt, alloc, source, None);
     let action = action(rt, alloc, program.types(), text);
-    let participants = participants(alloc, &program, &action).expect(rt, "memory");
-    let participation = Participation::of(alloc, &program, &action).expect(rt, "memory");
-    let owner = owner(&program, &action);
-    let external = participation.is_external();
-    assert!(rt; is_external(&program, &action) == external, "{text}");
-    (owner, participants.len(), external)
+    let participants = participants(alloc, &program, &action).got(rt);
+    let participation = Participation::of(alloc, &program, &action).got(rt);
+    let external = is_external(&program, &action);
+    expect_so(rt, participation.is_external() == external, text);
+    (owner(&program, &action), participants.len(), external)
 }
 
 #[test]
 fn actions_have_owners(rt: HostRuntime) {
     for (source, text, wanted) in &OWNERS {
-        let found = performers(&rt, rt.alloc(), source, text);
-        assert!(rt; found == *wanted, "{text}");
+        let is_so = performers(&rt, rt.alloc(), source, text) == *wanted;
+        expect_so(&rt, is_so, text);
     }
 }

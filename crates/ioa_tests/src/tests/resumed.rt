@@ -2,9 +2,9 @@
 
 ghost use Rattle.std.specs.Prelude.{◌≡◌, length};
 
-use crate::tests::made;
+use crate::tests::made::{self, EMPTY, Got, Setting, expect_so, expect_text, of_library, set_up};
 use crate::tests::reached::PUTS;
-use crate::tests::rooms::{script, told_outcome};
+use crate::tests::rooms::told_outcome;
 use crate::tests::threads::told_reports;
 use ioa_compile::Program;
 use ioa_log::{monitor, replay};
@@ -44,8 +44,6 @@ const ELSEWHERE: &str =
     "{\"act\":\"tick(9)\",\"who\":1}\n{\"end\":\"fault 2 in component 4 at 7\"}\n";
 
 const BARE: &str = "{\"end\":\"fault 1 in component 0 at 0\"}\n";
-
-const EMPTY: &str = "{\"end\":\"done after 0\"}";
 
 /// Counters that are at the greatest number, or come to it by one action.
 const FULL: &str = "automaton Counter(start: Int) signature output tick(k: Int); input reset \
@@ -209,21 +207,19 @@ pub fn seeded(rt: &impl Abort, alloc: Global, program: &Program) -> Vec<Seeded>
     let mut sources = Vec::new(alloc);
     for who in 0..program.members().len() {
         let words = Seeded::new([0; 32], who as u64);
-        sources.push(words).expect(rt, "memory");
+        sources.push(words).got(rt);
     }
     sources
 }
 
 /// The run on one thread that goes on from the log.
-fn alone(
-    rt: &impl Abort,
-    alloc: Global,
-    program: &Program,
-    log: &Log,
-    turns: u64,
-    script: &[Action],
-) -> Result<Outcome, RunErr> {
-    let words = seeded(rt, alloc, program);
+fn alone(rt: &impl Abort, alloc: Global, setting: &Setting, turns: u64) -> Result<Outcome, RunErr> {
+    let words = seeded(rt, alloc, &setting.program);
+    let Setting {
+        program,
+        log,
+        script,
+    } = setting;
     resume_alone(alloc, program, log, turns, words, script)
 }
 
@@ -231,12 +227,15 @@ fn alone(
 fn on_threads<H: Abort + Threads + Wait + Sync>(
     rt: &H,
     alloc: Global,
-    program: &Program,
-    log: &Log,
+    setting: &Setting,
     turns: u64,
-    script: &[Action],
 ) -> Result<Outcome, RunErr> {
-    let words = seeded(rt, alloc, program);
+    let words = seeded(rt, alloc, &setting.program);
+    let Setting {
+        program,
+        log,
+        script,
+    } = setting;
     resume_threads(rt, alloc, program, log, turns, words, script, &OpenGate)
 }
 
@@ -248,17 +247,25 @@ pub fn log_of(outcome: Outcome) -> Log {
     }
 }
 
+/// The run goes on from the log, gives this, and its whole log is accepted.
+fn expect_case(rt: &impl Abort, alloc: Global, case: &Case) {
+    let setting = set_up(rt, alloc, case.source, case.log, case.script);
+    let outcome = alone(rt, alloc, &setting, case.turns).expect(rt, "a run");
+    expect_told(
+        rt,
+        alloc,
+        &setting.program,
+        &outcome,
+        case.given,
+        case.reports,
+    );
+    replay(alloc, &setting.program, &log_of(outcome)).expect(rt, "a log of the program");
+}
+
 #[test]
 fn runs_go_on_from_logs(rt: HostRuntime) {
-    let alloc = rt.alloc();
     for case in &CASES {
-        let program = made::program(&rt, alloc, case.source, None);
-        let log = made::log(&rt, alloc, program.types(), case.log);
-        let script = script(&rt, alloc, program.types(), case.script);
-        let answer = alone(&rt, alloc, &program, &log, case.turns, &script);
-        let outcome = answer.expect(&rt, "a run");
-        expect_told(&rt, alloc, &program, &outcome, case.given, case.reports);
-        replay(alloc, &program, &log_of(outcome)).expect(&rt, "a log of the program");
+        expect_case(&rt, rt.alloc(), case);
     }
 }
 
@@ -272,23 +279,22 @@ fn expect_told(
     reports: &str,
 ) {
     let told = told_outcome(rt, alloc, program.types(), outcome);
-    assert!(rt; told.as_str() == given, "{told}");
+    expect_text(rt, told.as_str(), given);
     let told = told_reports(rt, alloc, &outcome.reports);
-    assert!(rt; told.as_str() == reports, "{told}");
+    expect_text(rt, told.as_str(), reports);
 }
 
-/// No run goes on from there, alone or on threads.
+/// Whether no run goes on from there for this reason, alone or on threads.
+fn is_refused<H: Abort + Threads + Wait + Sync>(rt: &H, alloc: Global, row: &Refused) -> bool {
+    let setting = set_up(rt, alloc, row.0, row.1, row.3);
+    alone(rt, alloc, &setting, row.2).err() == Some(row.4)
+        && on_threads(rt, alloc, &setting, row.2).err() == Some(row.4)
+}
+
 #[test]
 fn other_logs_are_refused(rt: HostRuntime) {
-    let alloc = rt.alloc();
-    for (source, text, turns, inputs, error) in &REFUSED {
-        let program = made::program(&rt, alloc, source, None);
-        let log = made::log(&rt, alloc, program.types(), text);
-        let script = script(&rt, alloc, program.types(), inputs);
-        let answer = alone(&rt, alloc, &program, &log, *turns, &script);
-        assert!(rt; answer.err() == Some(*error), "{text}");
-        let answer = on_threads(&rt, alloc, &program, &log, *turns, &script);
-        assert!(rt; answer.err() == Some(*error), "{text}");
+    for row in &REFUSED {
+        expect_so(&rt, is_refused(&rt, rt.alloc(), row), row.1);
     }
 }
 
@@ -296,14 +302,13 @@ fn other_logs_are_refused(rt: HostRuntime) {
 fn gone_on<H: Abort + Threads + Wait + Sync>(
     rt: &H,
     alloc: Global,
-    program: &Program,
-    log: &Log,
+    setting: &Setting,
     is_alone: bool,
 ) -> Outcome {
     let answer = if is_alone {
-        alone(rt, alloc, program, log, 1, &[])
+        alone(rt, alloc, setting, 1)
     } else {
-        on_threads(rt, alloc, program, log, 1, &[])
+        on_threads(rt, alloc, setting, 1)
     };
     answer.expect(rt, "a run")
 }
@@ -312,26 +317,46 @@ fn gone_on<H: Abort + Threads + Wait + Sync>(
 const ONE_TICK: &str =
     "1 committed, 0 idle, 0 stale, TurnsDone; 0 committed, 1 idle, 0 stale, TurnsDone";
 
-/// The counter ticked once more, and what is told of the run ends so.
-fn expect_tick(rt: &impl Abort, alloc: Global, program: &Program, outcome: &Outcome, wanted: &str) {
+/// How what is told of a run ends that goes on for a tick.
+static TICKS: [&str; 10] = [
+    "state(6), done after 1",
+    "state(7), done after 2",
+    "state(8), done after 3",
+    "state(9), done after 4",
+    "state(10), done after 5",
+    "state(11), done after 6",
+    "state(12), done after 7",
+    "state(13), done after 8",
+    "state(14), done after 9",
+    "state(15), done after 10",
+];
+
+/// Whether the counter ticked once more, and what is told of the run ends so.
+fn has_ticked(
+    rt: &impl Abort,
+    alloc: Global,
+    program: &Program,
+    outcome: &Outcome,
+    wanted: &str,
+) -> bool {
     let given = told_outcome(rt, alloc, program.types(), outcome);
-    assert!(rt; given.as_str().ends_with(wanted), "{given}");
     let reports = told_reports(rt, alloc, &outcome.reports);
-    assert!(rt; reports.as_str() == ONE_TICK, "{reports}");
+    given.as_str().ends_with(wanted) && reports.as_str() == ONE_TICK
 }
 
 /// Goes on ten times for a turn, alone and on threads in turn.
 #[test]
 fn a_run_goes_on_ten_times(rt: HostRuntime) {
     let alloc = rt.alloc();
-    let program = made::program(&rt, alloc, COUNTER, None);
-    let mut log = made::log(&rt, alloc, program.types(), EMPTY);
-    for turn in 0..10 {
-        let outcome = gone_on(&rt, alloc, &program, &log, turn % 2 == 0);
-        let wanted = format!(in alloc; "state({}), done after {}", 6 + turn, 1 + turn);
-        let wanted = wanted.expect(&rt, "memory");
-        expect_tick(&rt, alloc, &program, &outcome, wanted.as_str());
-        log = log_of(outcome);
+    let mut setting = set_up(&rt, alloc, COUNTER, EMPTY, &[]);
+    for (turn, wanted) in TICKS.iter().enumerate() {
+        let outcome = gone_on(&rt, alloc, &setting, turn % 2 == 0);
+        expect_so(
+            &rt,
+            has_ticked(&rt, alloc, &setting.program, &outcome, wanted),
+            wanted,
+        );
+        setting.log = log_of(outcome);
     }
 }
 
@@ -341,30 +366,49 @@ fn first_two<'a>(rt: &impl Abort, entries: &'a [LogEntry]) -> &'a [LogEntry] {
     &entries[..2]
 }
 
+/// Whether the room is of the program without inputs, for a turn of each worker, and of these entries before it.
+fn is_behind(room: &Room<'_>, program: &Program, entries: &[LogEntry]) -> bool {
+    room.is_of(program, &[], 1, entries)
+}
+
+/// A board that goes on from the log has its history, and no fault.
+fn expect_board(rt: &impl Abort, alloc: Global, setting: &Setting) {
+    let board = Board::resume(alloc, &setting.program, &setting.log).expect(rt, "a board");
+    assert!(rt; board.history().len() == 3 && board.recorded().is_none());
+}
+
+/// A room that goes on from the log is behind its entries, and behind no others; one that begins is behind none.
+fn expect_rooms(rt: &impl Abort, alloc: Global, setting: &Setting, other: &Log) {
+    let Setting { program, log, .. } = setting;
+    let entries = log.entries.as_slice();
+    let room = Room::resume(alloc, program, log, &[], 1).expect(rt, "a room");
+    let fresh = Room::start(alloc, program, &[], 1).got(rt);
+    assert!(rt;
+        is_behind(&room, program, entries)
+            && !is_behind(&room, program, first_two(rt, entries))
+            && !is_behind(&room, program, &other.entries)
+            && !is_behind(&room, program, &[])
+            && is_behind(&fresh, program, &[])
+            && !is_behind(&fresh, program, entries)
+    );
+}
+
 /// A room knows what was done before it.
 #[test]
 fn a_room_goes_on_from_a_log(rt: HostRuntime) {
     let alloc = rt.alloc();
-    let program = made::program(&rt, alloc, COUNTER, None);
-    let log = made::log(&rt, alloc, program.types(), TICKED);
-    let other = made::log(&rt, alloc, program.types(), ANOTHERS);
-    let board = Board::resume(alloc, &program, &log).expect(&rt, "a board");
-    assert!(rt; board.history().len() == 3 && board.recorded().is_none());
-    let room = Room::resume(alloc, &program, &log, &[], 1).expect(&rt, "a room");
-    assert!(rt; room.is_of(&program, &[], 1, &log.entries));
-    assert!(rt; !room.is_of(&program, &[], 1, first_two(&rt, &log.entries)));
-    assert!(rt; !room.is_of(&program, &[], 1, &other.entries));
-    assert!(rt; !room.is_of(&program, &[], 1, &[]));
-    let fresh = Room::start(alloc, &program, &[], 1).expect(&rt, "memory");
-    assert!(rt; fresh.is_of(&program, &[], 1, &[]) && !fresh.is_of(&program, &[], 1, &log.entries));
+    let setting = set_up(&rt, alloc, COUNTER, TICKED, &[]);
+    let other = made::log(&rt, alloc, setting.program.types(), ANOTHERS);
+    expect_board(&rt, alloc, &setting);
+    expect_rooms(&rt, alloc, &setting, &other);
 }
 
 /// The actions of the log.
 fn actions(rt: &impl Abort, alloc: Global, entries: &[LogEntry]) -> Vec<Action> {
     let mut actions = Vec::new(alloc);
     for entry in entries {
-        let action = entry.action.try_copy(alloc).expect(rt, "memory");
-        actions.push(action).expect(rt, "memory");
+        let action = entry.action.try_copy(alloc).got(rt);
+        actions.push(action).got(rt);
     }
     actions
 }
@@ -373,27 +417,32 @@ fn actions(rt: &impl Abort, alloc: Global, entries: &[LogEntry]) -> Vec<Action> 
 #[test]
 fn the_protocol_goes_on(rt: HostRuntime) {
     let alloc = rt.alloc();
-    let library = str::from_utf8(ioa_links::text()).expect(&rt, "a text");
-    let program = made::program(&rt, alloc, library, Some("Stenning"));
-    let whole = gone_on_from_a_run(&rt, alloc, &program);
-    replay(alloc, &program, &whole).expect(&rt, "a log of the program");
-    let fifo = made::program(&rt, alloc, library, Some("ReliableFifo"));
-    let actions = actions(&rt, alloc, &whole.entries);
-    monitor(alloc, &fifo, &actions).expect(&rt, "an accepted log");
+    let mut setting = of_library(&rt, alloc, "Stenning");
+    setting.log = first_log(&rt, alloc, &setting);
+    let whole = second_log(&rt, alloc, &setting);
+    replay(alloc, &setting.program, &whole).expect(&rt, "a log of the program");
+    expect_accepted(&rt, alloc, &whole);
 }
 
-/// The log of a run on threads that goes on from one, and has more entries.
-fn gone_on_from_a_run<H: Abort + Threads + Wait + Sync>(
-    rt: &H,
-    alloc: Global,
-    program: &Program,
-) -> Log {
+/// The library's reliable channel accepts the log's actions.
+fn expect_accepted(rt: &impl Abort, alloc: Global, log: &Log) {
+    let fifo = of_library(rt, alloc, "ReliableFifo");
+    let actions = actions(rt, alloc, &log.entries);
+    monitor(alloc, &fifo.program, &actions).expect(rt, "an accepted log");
+}
+
+/// The log of a run on threads.
+fn first_log<H: Abort + Threads + Wait + Sync>(rt: &H, alloc: Global, setting: &Setting) -> Log {
+    let program = &setting.program;
     let words = seeded(rt, alloc, program);
-    let first = run_threads(rt, alloc, program, 200, words, &[], &OpenGate);
-    let log = log_of(first.expect(rt, "a run"));
-    let second = on_threads(rt, alloc, program, &log, 50, &[]);
-    let whole = log_of(second.expect(rt, "a run"));
-    assert!(rt; whole.entries.len() > log.entries.len());
+    let answer = run_threads(rt, alloc, program, 200, words, &[], &OpenGate);
+    log_of(answer.expect(rt, "a run"))
+}
+
+/// The log of a run on threads that goes on, and has more entries.
+fn second_log<H: Abort + Threads + Wait + Sync>(rt: &H, alloc: Global, setting: &Setting) -> Log {
+    let whole = log_of(on_threads(rt, alloc, setting, 50).expect(rt, "a run"));
+    assert!(rt; whole.entries.len() > setting.log.entries.len());
     whole
 }
 
@@ -401,21 +450,19 @@ fn gone_on_from_a_run<H: Abort + Threads + Wait + Sync>(
 #[test]
 fn a_run_goes_on_from_nothing(rt: HostRuntime) {
     let alloc = rt.alloc();
-    let library = str::from_utf8(ioa_links::text()).expect(&rt, "a text");
-    let program = made::program(&rt, alloc, library, Some("AltBit"));
-    let log = made::log(&rt, alloc, program.types(), EMPTY);
-    let words = seeded(&rt, alloc, &program);
-    let first = run_alone(alloc, &program, 100, words, &[]).expect(&rt, "a run");
-    let second = alone(&rt, alloc, &program, &log, 100, &[]).expect(&rt, "a run");
-    let types = program.types();
-    let wanted = told_outcome(&rt, alloc, types, &first);
+    let setting = of_library(&rt, alloc, "AltBit");
+    let program = &setting.program;
+    let words = seeded(&rt, alloc, program);
+    let first = run_alone(alloc, program, 100, words, &[]).expect(&rt, "a run");
+    let given = told_outcome(&rt, alloc, program.types(), &first);
     let reports = told_reports(&rt, alloc, &first.reports);
+    let second = alone(&rt, alloc, &setting, 100).expect(&rt, "a run");
     expect_told(
         &rt,
         alloc,
-        &program,
+        program,
         &second,
-        wanted.as_str(),
+        given.as_str(),
         reports.as_str(),
     );
 }

@@ -7,7 +7,7 @@ ghost use Rattle.ioa_compile.specs.Tables.{tabled};
 ghost use Rattle.ioa_system.specs.Participants.{taken};
 ghost use Rattle.ioa_system.specs.Systems.{slot_types, types_of};
 
-use crate::tests::made::{action, program};
+use crate::tests::made::{EMPTY, Got, action, expect_text, set_up};
 use crate::tests::reached::{TWO, told_states};
 use crate::tests::schedules::told_entries;
 use ioa_compile::Program;
@@ -135,10 +135,10 @@ fn copied(alloc: Global, board: &Board<'_>, action: &Action) -> Result<Vec<NodeS
 }
 
 /// The same, with ample memory.
-pub fn lent(rt: &impl Abort, alloc: Global, board: &Board<'_>, action: &Action) -> Vec<NodeState>
+pub fn copies(rt: &impl Abort, alloc: Global, board: &Board<'_>, action: &Action) -> Vec<NodeState>
     ensures { types_of result.items ≡ taken (steps.participants (tabled board.now.program) (act_of action.now)) (slot_types board.now.program.members) }
 {
-    copied(alloc, board, action).expect(rt, "memory")
+    copied(alloc, board, action).got(rt)
 }
 
 /// The worker's plan for the action by the states as they are now, for which there is one.
@@ -151,8 +151,8 @@ pub fn planned<'p>(
 ) -> Plan<'p>
     ensures { (result.program ≡ board.now.program) × (result.who ≡ who) }
 {
-    let states = lent(rt, alloc, board, &action);
-    match Plan::make(alloc, board.program(), who, action, states).expect(rt, "memory") {
+    let states = copies(rt, alloc, board, &action);
+    match Plan::make(alloc, board.program(), who, action, states).got(rt) {
         Planned::Ready(plan) => plan,
         _ => panic!(rt; "no plan"),
     }
@@ -199,18 +199,21 @@ fn act_late(
     answer(rt, room.commit(who, plan))
 }
 
-/// Takes the turn, which is answered so.
-fn take(rt: &impl Abort, alloc: Global, room: &mut Room<'_>, turn: Turn) {
+/// Takes the turn. Whether it is answered so.
+fn is_taken(rt: &impl Abort, alloc: Global, room: &mut Room<'_>, turn: Turn) -> bool {
     match turn {
-        Turn::Act(who, text, wanted) => {
-            assert!(rt; act(rt, alloc, room, who, text) == wanted, "{text}");
-        }
+        Turn::Act(who, text, wanted) => act(rt, alloc, room, who, text) == wanted,
         Turn::Late(who, text, other, before, wanted) => {
-            let answer = act_late(rt, alloc, room, who, text, other, before);
-            assert!(rt; answer == wanted, "{text}");
+            act_late(rt, alloc, room, who, text, other, before) == wanted
         }
-        Turn::Idle(who) => room.idle(who),
-        Turn::Leave(who, why) => room.leave(who, why),
+        Turn::Idle(who) => {
+            room.idle(who);
+            true
+        }
+        Turn::Leave(who, why) => {
+            room.leave(who, why);
+            true
+        }
     }
 }
 
@@ -223,22 +226,12 @@ fn walked(
     turns: u64,
     moves: &[Turn],
 ) -> Outcome {
-    let mut room = Room::start(alloc, program, script, turns).expect(rt, "memory");
-    assert!(rt; room.is_of(program, script, turns, &[]));
-    assert!(rt; !room.is_of(program, script, 0, &[]));
+    let mut room = Room::start(alloc, program, script, turns).got(rt);
+    assert!(rt; room.is_of(program, script, turns, &[]) && !room.is_of(program, script, 0, &[]));
     for turn in moves {
-        take(rt, alloc, &mut room, *turn);
+        assert!(rt; is_taken(rt, alloc, &mut room, *turn));
     }
     room.finish()
-}
-
-pub fn script(rt: &impl Abort, alloc: Global, types: &Types, texts: &[&str]) -> Vec<Action> {
-    let mut actions = Vec::new(alloc);
-    for text in texts {
-        let action = action(rt, alloc, types, text);
-        actions.push(action).expect(rt, "memory");
-    }
-    actions
 }
 
 /// What was performed, the states, and the end.
@@ -246,18 +239,22 @@ pub fn told_outcome(rt: &impl Abort, alloc: Global, types: &Types, outcome: &Out
     let entries = told_entries(rt, alloc, types, &outcome.log);
     let states = told_states(rt, alloc, types, &outcome.states);
     let end = outcome.end.end();
-    format!(in alloc; "{entries}{states}, {end}").expect(rt, "memory")
+    format!(in alloc; "{entries}{states}, {end}").got(rt)
+}
+
+/// The walk is answered so turn by turn, and gives this.
+fn expect_walk(rt: &impl Abort, alloc: Global, walk: &Walk) {
+    let setting = set_up(rt, alloc, walk.0, EMPTY, walk.1);
+    let program = &setting.program;
+    let outcome = walked(rt, alloc, program, &setting.script, walk.2, walk.3);
+    let told = told_outcome(rt, alloc, program.types(), &outcome);
+    expect_text(rt, told.as_str(), walk.4);
+    assert!(rt; outcome.reports.as_slice() == walk.5);
 }
 
 #[test]
 fn rooms_count_turns(rt: HostRuntime) {
-    let alloc = rt.alloc();
-    for (source, texts, turns, moves, wanted, reports) in &WALKS {
-        let program = program(&rt, alloc, source, None);
-        let script = script(&rt, alloc, program.types(), texts);
-        let outcome = walked(&rt, alloc, &program, &script, *turns, moves);
-        let told = told_outcome(&rt, alloc, program.types(), &outcome);
-        assert!(rt; told.as_str() == *wanted, "{told}");
-        assert!(rt; outcome.reports.as_slice() == *reports, "{source}");
+    for walk in &WALKS {
+        expect_walk(&rt, rt.alloc(), walk);
     }
 }

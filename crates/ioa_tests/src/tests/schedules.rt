@@ -1,6 +1,6 @@
 //! Schedules: what workers are answered that copy and commit, and what then stands.
 
-use crate::tests::made::{action, program};
+use crate::tests::made::{Got, action, expect_text, program};
 use crate::tests::reached::{PUTS, TWO, told_states};
 use ioa_compile::Program;
 use ioa_rows::COUNTER;
@@ -8,6 +8,7 @@ use ioa_run::{Answer, Board, Core, Event, Recorded, play};
 use ioa_system::LogEntry;
 use ioa_value::{Fault, Types, print_action};
 use std::alloc::Global;
+use std::fmt::Write;
 use std::process::Abort;
 
 /// A worker, the action that it copies, or none where it commits, and what it is answered.
@@ -95,10 +96,10 @@ fn event(rt: &impl Abort, alloc: Global, types: &Types, turn: &Turn) -> Event {
     }
 }
 
-/// A worker and its action.
-fn told_entry(rt: &impl Abort, alloc: Global, types: &Types, entry: &LogEntry) -> String {
-    let action = print_action(alloc, types, &entry.action).expect(rt, "memory");
-    format!(in alloc; "{} {action}", entry.who).expect(rt, "memory")
+/// Writes a worker and its action.
+fn push_entry(rt: &impl Abort, alloc: Global, types: &Types, text: &mut String, entry: &LogEntry) {
+    let action = print_action(alloc, types, &entry.action).got(rt);
+    write!(text, "{} {action}", entry.who).got(rt);
 }
 
 /// Workers and their actions, in order.
@@ -106,47 +107,44 @@ pub fn told_entries(rt: &impl Abort, alloc: Global, types: &Types, entries: &[Lo
     let mut text = String::new(alloc);
     for entry in entries {
         if !text.is_empty() {
-            text.push_str("; ").expect(rt, "memory");
+            text.push_str("; ").got(rt);
         }
-        let told = told_entry(rt, alloc, types, entry);
-        text.push_str(told.as_str()).expect(rt, "memory");
+        push_entry(rt, alloc, types, &mut text, entry);
     }
     text
 }
 
-/// The fault that is recorded, if one is.
-fn told_record(
-    rt: &impl Abort,
-    alloc: Global,
-    types: &Types,
-    recorded: Option<&Recorded>,
-) -> String {
-    match recorded {
-        Some(recorded) => {
-            let entry = told_entry(rt, alloc, types, &recorded.entry);
-            let fault = recorded.fault.number();
-            let component = recorded.component;
-            let told = format!(in alloc; ", {entry} has fault {fault} in component {component}");
-            told.expect(rt, "memory")
-        }
-        None => String::new(alloc),
-    }
+/// The fault that is recorded.
+fn told_record(rt: &impl Abort, alloc: Global, types: &Types, recorded: &Recorded) -> String {
+    let mut text = String::from_str(alloc, ", ").got(rt);
+    push_entry(rt, alloc, types, &mut text, &recorded.entry);
+    let fault = recorded.fault.number();
+    write!(
+        text,
+        " has fault {fault} in component {}",
+        recorded.component
+    )
+    .got(rt);
+    text
 }
 
 pub fn told_board(rt: &impl Abort, alloc: Global, board: &Board<'_>) -> String {
     let types = board.program().types();
     let entries = told_entries(rt, alloc, types, board.history());
     let states = told_states(rt, alloc, types, board.states());
-    let record = told_record(rt, alloc, types, board.recorded());
-    format!(in alloc; "{entries}{states}{record}").expect(rt, "memory")
+    let record = match board.recorded() {
+        Some(recorded) => told_record(rt, alloc, types, recorded),
+        None => String::new(alloc),
+    };
+    format!(in alloc; "{entries}{states}{record}").got(rt)
 }
 
 /// The turns, which are answered so one by one, and what then stands.
 fn taken(rt: &impl Abort, alloc: Global, program: &Program, turns: &[Turn]) -> String {
-    let mut core = Core::start(alloc, program).expect(rt, "memory");
+    let mut core = Core::start(alloc, program).got(rt);
     for turn in turns {
         let event = event(rt, alloc, program.types(), turn);
-        assert!(rt; core.event(event).expect(rt, "memory") == turn.2);
+        assert!(rt; core.event(event).got(rt) == turn.2);
     }
     told_board(rt, alloc, core.board())
 }
@@ -155,10 +153,9 @@ fn taken(rt: &impl Abort, alloc: Global, program: &Program, turns: &[Turn]) -> S
 fn played(rt: &impl Abort, alloc: Global, program: &Program, turns: &[Turn]) -> String {
     let mut events = Vec::new(alloc);
     for turn in turns {
-        let event = event(rt, alloc, program.types(), turn);
-        events.push(event).expect(rt, "memory");
+        events.push(event(rt, alloc, program.types(), turn)).got(rt);
     }
-    let (played, answers) = play(alloc, program, &events).expect(rt, "memory");
+    let (played, answers) = play(alloc, program, &events).got(rt);
     assert!(rt; are_those_of(&answers, turns));
     told_board(rt, alloc, played.board())
 }
@@ -173,13 +170,15 @@ fn are_those_of(answers: &[Answer], turns: &[Turn]) -> bool {
     answers.len() == turns.len()
 }
 
+fn expect_play(rt: &impl Abort, alloc: Global, play: &Play) {
+    let program = program(rt, alloc, play.0, None);
+    expect_text(rt, taken(rt, alloc, &program, play.1).as_str(), play.2);
+    expect_text(rt, played(rt, alloc, &program, play.1).as_str(), play.2);
+}
+
 #[test]
 fn schedules_are_answered(rt: HostRuntime) {
-    for (source, turns, wanted) in &PLAYS {
-        let program = program(&rt, rt.alloc(), source, None);
-        let told = taken(&rt, rt.alloc(), &program, turns);
-        assert!(rt; told.as_str() == *wanted, "{told}");
-        let told = played(&rt, rt.alloc(), &program, turns);
-        assert!(rt; told.as_str() == *wanted, "{told}");
+    for play in &PLAYS {
+        expect_play(&rt, rt.alloc(), play);
     }
 }

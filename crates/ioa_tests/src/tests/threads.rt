@@ -2,10 +2,10 @@
 
 ghost use Rattle.std.specs.Prelude.{◌≡◌, length};
 
-use crate::tests::made::program;
+use crate::tests::made::{EMPTY, Got, Setting, expect_so, expect_text, set_up};
 use crate::tests::reached::{PUTS, TWO};
 use crate::tests::resumed::log_of;
-use crate::tests::rooms::{script, told_outcome};
+use crate::tests::rooms::told_outcome;
 use ioa_compile::Program;
 use ioa_log::replay;
 use ioa_node::Words;
@@ -504,7 +504,7 @@ fn sources<'a, R: Abort + Wait + Clock>(
             number: 0,
             course,
         };
-        sources.push(source).expect(rt, "memory");
+        sources.push(source).got(rt);
     }
     sources
 }
@@ -513,15 +513,17 @@ fn sources<'a, R: Abort + Wait + Clock>(
 fn ran<R: Abort + Threads + Wait + Clock + Sync>(
     rt: &R,
     alloc: Global,
-    program: &Program,
+    setting: &Setting,
     case: &Case,
 ) -> Outcome {
-    let script = script(rt, alloc, program.types(), case.script);
+    let Setting {
+        program,
+        script,
+        ..
+    } = setting;
     let course = Course::new(rt, alloc, case.holds);
     let words = sources(rt, alloc, program, case, &course);
-    let outcome = run_threads(rt, alloc, program, case.turns, words, &script, &course).expect(
-        rt, "memory",
-    );
+    let outcome = run_threads(rt, alloc, program, case.turns, words, script, &course).got(rt);
     let stops = course
         .kept()
         .expect(rt, "each worker is held, and none too long");
@@ -532,12 +534,9 @@ fn ran<R: Abort + Threads + Wait + Clock + Sync>(
 /// Compares the points to which the workers came with what is wanted, and with what their reports count.
 fn expect_points(rt: &impl Abort, alloc: Global, case: &Case, reports: &[Report], stops: &[Stop]) {
     let points = told_points(rt, alloc, reports.len(), stops);
-    assert!(rt;
-        is_wanted(rt, alloc, case.points, points.as_str()),
-        "{points}"
-    );
+    expect_one_of(rt, alloc, points.as_str(), case.points);
     for (who, report) in reports.iter().enumerate() {
-        assert!(rt; ends_as_counted(stops, who, report), "{points}");
+        expect_so(rt, ends_as_counted(stops, who, report), points.as_str());
     }
 }
 
@@ -553,54 +552,56 @@ fn told_points(rt: &impl Abort, alloc: Global, workers: usize, stops: &[Stop]) -
     let mut text = String::new(alloc);
     for who in 0..workers {
         if who > 0 {
-            text.push_str("; ").expect(rt, "memory");
+            text.push_str("; ").got(rt);
         }
-        push_points(&mut text, who, stops).expect(rt, "memory");
+        push_points(rt, &mut text, who, stops);
     }
     text
 }
 
-fn push_points(text: &mut String, who: usize, stops: &[Stop]) -> Result<(), AllocError> {
+fn push_points(rt: &impl Abort, text: &mut String, who: usize, stops: &[Stop]) {
     for stop in stops {
         if let Some(point) = point_of(*stop, who) {
-            write!(text, "{point:?} ")?;
+            write!(text, "{point:?} ").got(rt);
         }
     }
-    Ok(())
 }
 
 /// What the run on one thread gives.
 fn ran_alone<R: Abort + Wait + Clock>(
     rt: &R,
     alloc: Global,
-    program: &Program,
+    setting: &Setting,
     case: &Case,
 ) -> Outcome {
-    let script = script(rt, alloc, program.types(), case.script);
     let course = Course::new(rt, alloc, case.holds);
-    let words = sources(rt, alloc, program, case, &course);
-    run_alone(alloc, program, case.turns, words, &script).expect(rt, "memory")
+    let words = sources(rt, alloc, &setting.program, case, &course);
+    let answer = run_alone(alloc, &setting.program, case.turns, words, &setting.script);
+    answer.got(rt)
 }
 
 pub fn told_reports(rt: &impl Abort, alloc: Global, reports: &[Report]) -> String {
     let mut text = String::new(alloc);
     for report in reports {
         if !text.is_empty() {
-            text.push_str("; ").expect(rt, "memory");
+            text.push_str("; ").got(rt);
         }
-        let Report {
-            committed,
-            idle,
-            stale,
-            why,
-        } = report;
-        let told = write!(
-            text,
-            "{committed} committed, {idle} idle, {stale} stale, {why:?}"
-        );
-        told.expect(rt, "memory");
+        push_report(&mut text, report).got(rt);
     }
     text
+}
+
+fn push_report(text: &mut String, report: &Report) -> Result<(), AllocError> {
+    let Report {
+        committed,
+        idle,
+        stale,
+        why,
+    } = report;
+    write!(
+        text,
+        "{committed} committed, {idle} idle, {stale} stale, {why:?}"
+    )
 }
 
 /// How many of the entries are the worker's of this number.
@@ -637,15 +638,15 @@ fn are_counted(outcome: &Outcome, turns: u64) -> bool {
     true
 }
 
-/// Whether the text is one of those that are wanted, if there are some.
-fn is_wanted(rt: &impl Abort, alloc: Global, wanted: &[&str], told: &str) -> bool {
+/// What is told is one of the texts that are wanted, if there are some.
+fn expect_one_of(rt: &impl Abort, alloc: Global, told: &str, wanted: &[&str]) {
+    let mut is_so = wanted.is_empty();
     for pieces in wanted {
-        let text = text(alloc, pieces).expect(rt, "pieces");
-        if text.as_str() == told {
-            return true;
+        if text(alloc, pieces).expect(rt, "pieces").as_str() == told {
+            is_so = true;
         }
     }
-    wanted.is_empty()
+    expect_so(rt, is_so, told);
 }
 
 /// Compares what a run gives with what is wanted, and replays its log.
@@ -657,31 +658,33 @@ fn expect_outcome(
     outcome: Outcome,
 ) {
     let log = told_outcome(rt, alloc, program.types(), &outcome);
-    assert!(rt; is_wanted(rt, alloc, case.logs, log.as_str()), "{log}");
+    expect_one_of(rt, alloc, log.as_str(), case.logs);
     let reports = told_reports(rt, alloc, &outcome.reports);
-    assert!(rt;
-        is_wanted(rt, alloc, case.reports, reports.as_str()),
-        "{reports}"
-    );
-    assert!(rt; are_counted(&outcome, case.turns), "{reports}");
+    expect_one_of(rt, alloc, reports.as_str(), case.reports);
+    expect_so(rt, are_counted(&outcome, case.turns), reports.as_str());
     replay(alloc, program, &log_of(outcome)).expect(rt, "a log of the program");
 }
 
 /// Runs on threads, and compares what the run gives with what is wanted.
 fn expect_case<R: Abort + Threads + Wait + Clock + Sync>(rt: &R, alloc: Global, case: &Case) {
-    let program = program(rt, alloc, case.source, None);
-    let outcome = ran(rt, alloc, &program, case);
-    expect_outcome(rt, alloc, &program, case, outcome);
+    let setting = set_up(rt, alloc, case.source, EMPTY, case.script);
+    let outcome = ran(rt, alloc, &setting, case);
+    expect_outcome(rt, alloc, &setting.program, case, outcome);
+}
+
+fn expect_cases<R: Abort + Threads + Wait + Clock + Sync>(rt: &R, alloc: Global, cases: &[Case]) {
+    for case in cases {
+        expect_case(rt, alloc, case);
+    }
 }
 
 #[test]
 fn threads_give_what_is_wanted(rt: HostRuntime) {
-    for case in &CASES {
-        expect_case(&rt, rt.alloc(), case);
-    }
+    let alloc = rt.alloc();
+    expect_cases(&rt, alloc, &CASES);
     for (error, text) in &REFUSALS {
-        let told = format!(in rt.alloc(); "{error}").expect(&rt, "memory");
-        assert!(rt; told.as_str() == *text, "{told}");
+        let told = format!(in alloc; "{error}").got(&rt);
+        expect_text(&rt, told.as_str(), text);
     }
 }
 
@@ -692,19 +695,16 @@ fn two_workers_overlap(rt: HostRuntime) {
 
 #[test]
 fn words_unlocked(rt: HostRuntime) {
-    for case in &UNLOCKED {
-        expect_case(&rt, rt.alloc(), case);
-    }
-    for case in &POKED {
-        expect_case(&rt, rt.alloc(), case);
-    }
+    let alloc = rt.alloc();
+    expect_cases(&rt, alloc, &UNLOCKED);
+    expect_cases(&rt, alloc, &POKED);
 }
 
 #[test]
 fn one_worker_exact(rt: HostRuntime) {
-    let program = program(&rt, rt.alloc(), KEPT.source, None);
-    let outcome = ran(&rt, rt.alloc(), &program, &KEPT);
-    expect_outcome(&rt, rt.alloc(), &program, &KEPT, outcome);
-    let outcome = ran_alone(&rt, rt.alloc(), &program, &KEPT);
-    expect_outcome(&rt, rt.alloc(), &program, &KEPT, outcome);
+    let alloc = rt.alloc();
+    expect_case(&rt, alloc, &KEPT);
+    let setting = set_up(&rt, alloc, KEPT.source, EMPTY, KEPT.script);
+    let outcome = ran_alone(&rt, alloc, &setting, &KEPT);
+    expect_outcome(&rt, alloc, &setting.program, &KEPT, outcome);
 }

@@ -1,7 +1,9 @@
 //! Tokens of texts, and texts that have none.
 
+use crate::tests::made::{Got, expect_so, expect_text};
 use ioa_lex::{Kind, Refusal, Terminal, Token, lex};
 use std::alloc::{AllocError, Global};
+use std::fmt::Write;
 use std::process::Abort;
 
 static WORDS: [(&str, Terminal); 47] = [
@@ -101,48 +103,47 @@ fn expect_terminals(rt: &impl Abort, alloc: Global, rows: &[(&str, Terminal)]) {
             [token] => matches!(&token.kind, Kind::Terminal(found) if found == terminal),
             _ => false,
         };
-        assert!(rt; is_so, "{text}");
+        expect_so(rt, is_so, text);
     }
 }
 
 #[test]
 fn words_and_signs_are_tokens(rt: HostRuntime) {
-    expect_terminals(&rt, rt.alloc(), &WORDS);
-    expect_terminals(&rt, rt.alloc(), &SIGNS);
+    let alloc = rt.alloc();
+    expect_terminals(&rt, alloc, &WORDS);
+    expect_terminals(&rt, alloc, &SIGNS);
 }
 
 #[test]
 fn other_texts_are_no_tokens(rt: HostRuntime) {
+    let alloc = rt.alloc();
     for (text, line) in &REFUSED {
-        let found = lex(rt.alloc(), text.as_bytes());
-        assert!(rt;
-            matches!(found, Err(Refusal::BadByte(at)) if at == *line),
-            "{text}"
-        );
+        let is_so = match lex(alloc, text.as_bytes()) {
+            Err(Refusal::BadByte(at)) => at == *line,
+            _ => false,
+        };
+        expect_so(&rt, is_so, text);
     }
 }
 
-/// A token, on a line, with its own line.
-fn told_token(alloc: Global, token: &Token) -> Result<String, AllocError> {
+/// Writes a token on a line, with its own line.
+fn push_token(text: &mut String, token: &Token) -> Result<(), AllocError> {
     let line = token.line;
     match &token.kind {
-        Kind::Name(name) => format!(in alloc; "{line} name {name}\n"),
-        Kind::Number(number) => format!(in alloc; "{line} number {number}\n"),
-        Kind::Terminal(terminal) => {
-            let sign = terminal.text();
-            format!(in alloc; "{line} {sign}\n")
-        }
+        Kind::Name(name) => write!(text, "{line} name {name}\n"),
+        Kind::Number(number) => write!(text, "{line} number {number}\n"),
+        Kind::Terminal(terminal) => write!(text, "{line} {}\n", terminal.text()),
     }
 }
 
 #[test]
 fn the_longest_token_is_taken(rt: HostRuntime) {
-    let tokens = lex(rt.alloc(), b"inputs 007x:==% = +\n\tinput").expect(&rt, "tokens");
-    let wanted = "1 name inputs\n1 number 7\n1 name x\n1 :=\n1 =\n2 input\n";
-    let mut told = String::new(rt.alloc());
+    let alloc = rt.alloc();
+    let tokens = lex(alloc, b"inputs 007x:==% = +\n\tinput").expect(&rt, "tokens");
+    let mut told = String::new(alloc);
     for token in &tokens {
-        let token = told_token(rt.alloc(), token).expect(&rt, "memory");
-        told.push_str(token.as_str()).expect(&rt, "memory");
+        push_token(&mut told, token).got(&rt);
     }
-    assert!(rt; told.as_str() == wanted, "{told}");
+    let wanted = "1 name inputs\n1 number 7\n1 name x\n1 :=\n1 =\n2 input\n";
+    expect_text(&rt, told.as_str(), wanted);
 }

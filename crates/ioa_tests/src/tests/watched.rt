@@ -3,7 +3,7 @@
 ghost use Rattle.std.specs.Prelude.{◌≡◌, All, false, true};
 ghost use Rattle.ioa_log.specs.Monitoring.{hides};
 
-use crate::tests::made::{action, program};
+use crate::tests::made::{Got, action, expect_so, program};
 use ioa_compile::Program;
 use ioa_log::{Counted, LogErr, hides_actions};
 use ioa_rows::COUNTER;
@@ -38,20 +38,38 @@ fn heard(
     watcher.hear(action)
 }
 
+/// Whether it is told so of the action that is spelled so.
+fn is_heard(
+    rt: &impl Abort,
+    alloc: Global,
+    watcher: &mut Watcher<'_>,
+    text: &str,
+    told: Option<End>,
+) -> bool {
+    let action = action(rt, alloc, watcher.program().types(), text);
+    heard(rt, watcher, &action) == Ok(told)
+}
+
+/// Whether it has taken two ticks and a reset, passed one action over, and refused the next.
+fn has_counted(watcher: &Watcher<'_>) -> bool {
+    watcher.names() == ["tick", "reset"].as_slice()
+        && watcher.counts() == [1, 1].as_slice()
+        && watcher.others() == 1
+        && watcher.heard() == 3
+        && watcher.refusal() == Some(End::NotEnabled(3))
+        && watcher.program().name() == "One"
+}
+
 #[test]
 fn hears_and_counts(rt: HostRuntime) {
-    let program = program(&rt, rt.alloc(), COUNTER, None);
-    let mut watcher = Watcher::start(rt.alloc(), &program).expect(&rt, "memory");
+    let alloc = rt.alloc();
+    let program = program(&rt, alloc, COUNTER, None);
+    let mut watcher = Watcher::start(alloc, &program).got(&rt);
     for (text, told) in &HEARD {
-        let action = action(&rt, rt.alloc(), program.types(), text);
-        assert!(rt; heard(&rt, &mut watcher, &action) == Ok(*told), "{text}");
+        let is_so = is_heard(&rt, alloc, &mut watcher, text, *told);
+        expect_so(&rt, is_so, text);
     }
-    assert!(rt; watcher.names() == ["tick", "reset"].as_slice());
-    assert!(rt; watcher.counts() == [1, 1].as_slice());
-    assert!(rt; watcher.others() == 1);
-    assert!(rt; watcher.heard() == 3);
-    assert!(rt; watcher.refusal() == Some(End::NotEnabled(3)));
-    assert!(rt; watcher.program().name() == "One");
+    assert!(rt; has_counted(&watcher));
 }
 
 /// Streams that a counter from 5 and one from 6 hear, whether the first refusal is enough, and what is told.
@@ -113,13 +131,9 @@ static WRONG: [(&str, LogErr, &str); 6] = [
 
 /// Programs of both counters.
 fn counters(rt: &impl Abort, alloc: Global) -> Vec<Program> {
-    let mut programs = Vec::new(alloc);
-    for source in [COUNTER, ANOTHER] {
-        programs
-            .push(program(rt, alloc, source, None))
-            .expect(rt, "memory");
-    }
-    programs
+    let one = program(rt, alloc, COUNTER, None);
+    let other = program(rt, alloc, ANOTHER, None);
+    vec![in alloc; one, other].got(rt)
 }
 
 /// Whether all that they do is seen.
@@ -151,30 +165,31 @@ fn ended(
     }
 }
 
-/// What comes of a stream, and what is told of it.
-fn watched(
+/// Whether the watch of the stream ends so, and tells this.
+fn is_watched(
     rt: &impl Abort,
     alloc: Global,
     text: &str,
     first: bool,
-) -> (Result<(), LogErr>, Vec<u8>) {
+    wanted: Result<(), LogErr>,
+    told: &str,
+) -> bool {
     let programs = counters(rt, alloc);
     let mut input = Counted::new(text.as_bytes());
     let mut output = Counted::new(Vec::new(alloc));
     let answer = ended(rt, alloc, &programs, first, &mut input, &mut output);
-    (answer, output.into_inner())
+    answer == wanted && output.into_inner().as_slice() == told.as_bytes()
 }
 
 #[test]
 fn tells_refusals_at_once_and_refuses_lines(rt: HostRuntime) {
+    let alloc = rt.alloc();
     for (text, first, told) in &STREAMS {
-        let (answer, written) = watched(&rt, rt.alloc(), text, *first);
-        assert!(rt; answer == Ok(()), "{text}");
-        assert!(rt; written.as_slice() == told.as_bytes(), "{text}");
+        let is_so = is_watched(&rt, alloc, text, *first, Ok(()), told);
+        expect_so(&rt, is_so, text);
     }
     for (text, error, told) in &WRONG {
-        let (answer, written) = watched(&rt, rt.alloc(), text, false);
-        assert!(rt; answer == Err(*error), "{text}");
-        assert!(rt; written.as_slice() == told.as_bytes(), "{text}");
+        let is_so = is_watched(&rt, alloc, text, false, Err(*error), told);
+        expect_so(&rt, is_so, text);
     }
 }

@@ -7,12 +7,10 @@ ghost use Rattle.ioa_compile.specs.Tables.{tabled};
 ghost use Rattle.ioa_system.specs.Participants.{taken};
 ghost use Rattle.ioa_system.specs.Systems.{slot_types, types_of};
 
-use crate::tests::made;
+use crate::tests::made::{self, Got, Setting};
 use crate::tests::memory::hoard::Spare;
-use crate::tests::memory::lent::is_log;
 use crate::tests::memory::{Came, all_but};
-use crate::tests::resumed::TICKED;
-use crate::tests::rooms::{lent, planned, script};
+use crate::tests::rooms::{copies, planned};
 use crate::tests::schedules::told_board;
 use ioa_compile::Program;
 use ioa_node::NodeState;
@@ -34,17 +32,17 @@ fn made_of<'p>(
 }
 
 /// A plan for a roll of the die.
-pub fn made(rt: &impl Abort, alloc: Global, program: &Program, spare: Spare) -> Came {
-    let board = Board::start(alloc, program).expect(rt, "memory");
-    let action = made::action(rt, alloc, program.types(), "roll(5)");
-    let states = lent(rt, alloc, &board, &action);
+pub fn made(rt: &impl Abort, alloc: Global, lent: &Setting, spare: Spare) -> Came {
+    let board = Board::start(alloc, &lent.program).got(rt);
+    let action = made::action(rt, alloc, lent.program.types(), "roll(5)");
+    let states = copies(rt, alloc, &board, &action);
     let hoard = all_but(rt, alloc, spare);
     let answer = made_of(alloc, &board, action, states);
     drop(hoard);
     match answer {
-        Ok(Planned::Ready(_)) => Came::Answered(true),
-        Ok(_) => Came::Answered(false),
-        Err(_) => Came::Wanting(true),
+        Ok(Planned::Ready(_)) => Came::Answered,
+        Ok(_) => Came::Wrong,
+        Err(_) => Came::Wanting,
     }
 }
 
@@ -54,8 +52,13 @@ const COMMITS: usize = 12;
 /// The counter's tick of this number, from 0.
 fn tick(rt: &impl Abort, alloc: Global, program: &Program, number: usize) -> Action {
     let count = number.saturating_add(5);
-    let text = format!(in alloc; "tick({count})").expect(rt, "memory");
+    let text = format!(in alloc; "tick({count})").got(rt);
     made::action(rt, alloc, program.types(), text.as_str())
+}
+
+/// Whether this is told of the board.
+fn is_board(rt: &impl Abort, alloc: Global, board: &Board<'_>, told: &str) -> bool {
+    told_board(rt, alloc, board).as_str() == told
 }
 
 /// Commits a tick with so many bytes. One that is given back for want of memory is committed again with ample memory, in the same place.
@@ -73,22 +76,22 @@ fn commit(
     let verdict = board.commit(0, plan);
     drop(hoard);
     match verdict {
-        Verdict::Committed(index) => Came::Answered(index == number),
+        Verdict::Committed(index) => Came::Answered.and(index == number),
         Verdict::Memory(plan) => {
-            let is_kept = told_board(rt, alloc, board).as_str() == before.as_str();
+            let came = Came::Wanting.and(is_board(rt, alloc, board, before.as_str()));
             let again = board.commit(0, plan);
-            Came::Wanting(is_kept && matches!(again, Verdict::Committed(index) if index == number))
+            came.and(matches!(again, Verdict::Committed(index) if index == number))
         }
-        _ => Came::Answered(false),
+        _ => Came::Wrong,
     }
 }
 
 /// Commits of some actions, one after another, up to the first that is refused memory.
-pub fn committed(rt: &impl Abort, alloc: Global, program: &Program, spare: Spare) -> Came {
-    let mut board = Board::start(alloc, program).expect(rt, "memory");
-    let mut came = Came::Answered(true);
+pub fn committed(rt: &impl Abort, alloc: Global, lent: &Setting, spare: Spare) -> Came {
+    let mut board = Board::start(alloc, &lent.program).got(rt);
+    let mut came = Came::Answered;
     for number in 0..COMMITS {
-        if matches!(came, Came::Answered(true)) {
+        if matches!(came, Came::Answered) {
             came = commit(rt, alloc, &mut board, number, spare);
         }
     }
@@ -110,11 +113,10 @@ fn event_and_after(
     let answer = core.event(given);
     drop(hoard);
     match answer {
-        Ok(answer) => Came::Answered(answer == wanted),
+        Ok(answer) => Came::Answered.and(answer == wanted),
         Err(_) => {
-            let is_kept = told_board(rt, alloc, core.board()).as_str() == before.as_str();
-            let answer = core.event(Event::Commit(0)).expect(rt, "memory");
-            Came::Wanting(is_kept && answer == after)
+            let came = Came::Wanting.and(is_board(rt, alloc, core.board(), before.as_str()));
+            came.and(core.event(Event::Commit(0)).got(rt) == after)
         }
     }
 }
@@ -139,7 +141,7 @@ fn ticked(
         spare,
     );
     match copied {
-        Came::Answered(true) => {
+        Came::Answered => {
             let wanted = Answer::Committed(number);
             event_and_after(rt, alloc, core, Event::Commit(0), wanted, wanted, spare)
         }
@@ -148,56 +150,49 @@ fn ticked(
 }
 
 /// A worker that copies and commits: where its copy is refused memory it has no plan, and where its commit is it has the one from before.
-pub fn answered(rt: &impl Abort, alloc: Global, program: &Program, spare: Spare) -> Came {
-    let mut core = Core::start(alloc, program).expect(rt, "memory");
-    let mut came = Came::Answered(true);
+pub fn answered(rt: &impl Abort, alloc: Global, lent: &Setting, spare: Spare) -> Came {
+    let mut core = Core::start(alloc, &lent.program).got(rt);
+    let mut came = Came::Answered;
     for number in 0..COMMITS {
-        if matches!(came, Came::Answered(true)) {
-            let tick = tick(rt, alloc, program, number);
+        if matches!(came, Came::Answered) {
+            let tick = tick(rt, alloc, &lent.program, number);
             came = ticked(rt, alloc, &mut core, tick, number, spare);
         }
     }
     came
 }
 
+/// What is told of a board that goes on from the log.
+const BOARD: &str = "0 tick(5); 0 tick(6); 1 reset, state(5)";
+
 /// A board that goes on from a log.
-pub fn resumed(rt: &impl Abort, alloc: Global, program: &Program, spare: Spare) -> Came {
-    let log = made::log(rt, alloc, program.types(), TICKED);
+pub fn resumed(rt: &impl Abort, alloc: Global, lent: &Setting, spare: Spare) -> Came {
     let hoard = all_but(rt, alloc, spare);
-    let answer = Board::resume(alloc, program, &log);
+    let answer = Board::resume(alloc, &lent.program, &lent.log);
     drop(hoard);
     match answer {
-        Ok(board) => {
-            let told = told_board(rt, alloc, &board);
-            Came::Answered(told.as_str() == "0 tick(5); 0 tick(6); 1 reset, state(5)")
-        }
-        Err(error) => refused(error, is_log(rt, alloc, program.types(), &log, TICKED)),
+        Ok(board) => Came::Answered.and(is_board(rt, alloc, &board, BOARD)),
+        Err(error) => refused(error),
     }
 }
 
-/// What came of it that is refused so, when what was lent is as it was.
-fn refused(error: RunErr, is_kept: bool) -> Came {
+/// What came of it that is refused so.
+fn refused(error: RunErr) -> Came {
     match error {
-        RunErr::OutOfMemory => Came::Wanting(is_kept),
-        _ => Came::Answered(false),
+        RunErr::OutOfMemory => Came::Wanting,
+        _ => Came::Wrong,
     }
 }
 
 /// A room that goes on from a log.
-pub fn room_resumed(rt: &impl Abort, alloc: Global, program: &Program, spare: Spare) -> Came {
-    let log = made::log(rt, alloc, program.types(), TICKED);
-    let inputs = script(rt, alloc, program.types(), &["reset"]);
+pub fn room_resumed(rt: &impl Abort, alloc: Global, lent: &Setting, spare: Spare) -> Came {
     let hoard = all_but(rt, alloc, spare);
-    let answer = Room::resume(alloc, program, &log, &inputs, 3);
+    let answer = Room::resume(alloc, &lent.program, &lent.log, &lent.script, 3);
     drop(hoard);
     match answer {
-        Ok(room) => {
-            let told = told_board(rt, alloc, room.board());
-            Came::Answered(
-                told.as_str() == "0 tick(5); 0 tick(6); 1 reset, state(5)"
-                    && room.is_of(program, &inputs, 3, &log.entries),
-            )
-        }
-        Err(error) => refused(error, is_log(rt, alloc, program.types(), &log, TICKED)),
+        Ok(room) => Came::Answered
+            .and(is_board(rt, alloc, room.board(), BOARD))
+            .and(room.is_of(&lent.program, &lent.script, 3, &lent.log.entries)),
+        Err(error) => refused(error),
     }
 }

@@ -1,10 +1,9 @@
 //! Whole runs with little memory: they begin or not, and a worker's own want of memory ends that worker alone.
 
-use crate::tests::made;
+use crate::tests::made::Setting;
 use crate::tests::memory::hoard::Spare;
-use crate::tests::memory::lent::is_log;
 use crate::tests::memory::{Came, all_but};
-use crate::tests::resumed::{TICKED, log_of, seeded};
+use crate::tests::resumed::{log_of, seeded};
 use crate::tests::rooms::told_outcome;
 use crate::tests::threads::told_reports;
 use ioa_compile::Program;
@@ -12,7 +11,6 @@ use ioa_log::replay;
 use ioa_run::{
     OpenGate, Outcome, Report, RunErr, Why, resume_alone, resume_threads, run_alone, run_threads,
 };
-use ioa_system::Log;
 use std::alloc::Global;
 use std::process::Abort;
 use std::sync::Wait;
@@ -31,22 +29,7 @@ const RUN: &str = "0 tick(5); 0 tick(6); 0 tick(7); 0 tick(8), state(9), done af
 const RESUMED: &str =
     "0 tick(5); 0 tick(6); 1 reset; 0 tick(5); 0 tick(6); 0 tick(7); 0 tick(8), state(9), done after 7";
 
-/// What came of a run that goes on from the log, which stays.
-fn judged_resumed(
-    rt: &impl Abort,
-    alloc: Global,
-    program: &Program,
-    log: &Log,
-    answer: Result<Outcome, RunErr>,
-) -> Came {
-    if is_log(rt, alloc, program.types(), log, TICKED) {
-        judged(rt, alloc, program, answer, RESUMED)
-    } else {
-        Came::Answered(false)
-    }
-}
-
-/// What came of a run that does this with ample memory. Its log is accepted, whatever became of its workers.
+/// What came of a run that does this with ample memory.
 fn judged(
     rt: &impl Abort,
     alloc: Global,
@@ -56,9 +39,9 @@ fn judged(
 ) -> Came {
     match answer {
         Ok(outcome) => performed(rt, alloc, program, outcome, given),
-        Err(RunErr::OutOfMemory) => Came::Unbegun(RunErr::OutOfMemory, true),
-        Err(RunErr::Threads) => Came::Unbegun(RunErr::Threads, true),
-        Err(_) => Came::Answered(false),
+        Err(RunErr::OutOfMemory) => Came::Unbegun(RunErr::OutOfMemory),
+        Err(RunErr::Threads) => Came::Unbegun(RunErr::Threads),
+        Err(_) => Came::Wrong,
     }
 }
 
@@ -72,7 +55,7 @@ fn lacks_memory(reports: &[Report]) -> bool {
     false
 }
 
-/// What came of a run that gives this.
+/// What came of a run that gives this. Its log is accepted, whatever became of its workers.
 fn performed(
     rt: &impl Abort,
     alloc: Global,
@@ -80,14 +63,12 @@ fn performed(
     outcome: Outcome,
     given: &str,
 ) -> Came {
-    let is_short = lacks_memory(&outcome.reports);
-    let is_whole = is_as_given(rt, alloc, program, &outcome, given);
-    let is_log = replay(alloc, program, &log_of(outcome)).is_ok();
-    if is_short {
-        Came::Wanting(is_log)
+    let came = if lacks_memory(&outcome.reports) {
+        Came::Wanting
     } else {
-        Came::Answered(is_log && is_whole)
-    }
+        Came::Answered.and(is_as_given(rt, alloc, program, &outcome, given))
+    };
+    came.and(replay(alloc, program, &log_of(outcome)).is_ok())
 }
 
 /// Whether the run did this, and its workers what they do with ample memory.
@@ -98,12 +79,12 @@ fn is_as_given(
     outcome: &Outcome,
     given: &str,
 ) -> bool {
-    let reports = told_reports(rt, alloc, &outcome.reports);
-    let told = told_outcome(rt, alloc, program.types(), outcome);
-    reports.as_str() == REPORTS && told.as_str() == given
+    told_reports(rt, alloc, &outcome.reports).as_str() == REPORTS
+        && told_outcome(rt, alloc, program.types(), outcome).as_str() == given
 }
 
-pub fn alone(rt: &impl Abort, alloc: Global, program: &Program, spare: Spare) -> Came {
+pub fn alone(rt: &impl Abort, alloc: Global, lent: &Setting, spare: Spare) -> Came {
+    let program = &lent.program;
     let words = seeded(rt, alloc, program);
     let hoard = all_but(rt, alloc, spare);
     let answer = run_alone(alloc, program, TURNS, words, &[]);
@@ -111,21 +92,22 @@ pub fn alone(rt: &impl Abort, alloc: Global, program: &Program, spare: Spare) ->
     judged(rt, alloc, program, answer, RUN)
 }
 
-pub fn resumed_alone(rt: &impl Abort, alloc: Global, program: &Program, spare: Spare) -> Came {
-    let log = made::log(rt, alloc, program.types(), TICKED);
+pub fn resumed_alone(rt: &impl Abort, alloc: Global, lent: &Setting, spare: Spare) -> Came {
+    let program = &lent.program;
     let words = seeded(rt, alloc, program);
     let hoard = all_but(rt, alloc, spare);
-    let answer = resume_alone(alloc, program, &log, TURNS, words, &[]);
+    let answer = resume_alone(alloc, program, &lent.log, TURNS, words, &[]);
     drop(hoard);
-    judged_resumed(rt, alloc, program, &log, answer)
+    judged(rt, alloc, program, answer, RESUMED)
 }
 
 pub fn on_threads<H: Abort + Threads + Wait + Sync>(
     rt: &H,
     alloc: Global,
-    program: &Program,
+    lent: &Setting,
     spare: Spare,
 ) -> Came {
+    let program = &lent.program;
     let words = seeded(rt, alloc, program);
     let hoard = all_but(rt, alloc, spare);
     let answer = run_threads(rt, alloc, program, TURNS, words, &[], &OpenGate);
@@ -136,13 +118,13 @@ pub fn on_threads<H: Abort + Threads + Wait + Sync>(
 pub fn resumed_on_threads<H: Abort + Threads + Wait + Sync>(
     rt: &H,
     alloc: Global,
-    program: &Program,
+    lent: &Setting,
     spare: Spare,
 ) -> Came {
-    let log = made::log(rt, alloc, program.types(), TICKED);
+    let program = &lent.program;
     let words = seeded(rt, alloc, program);
     let hoard = all_but(rt, alloc, spare);
-    let answer = resume_threads(rt, alloc, program, &log, TURNS, words, &[], &OpenGate);
+    let answer = resume_threads(rt, alloc, program, &lent.log, TURNS, words, &[], &OpenGate);
     drop(hoard);
-    judged_resumed(rt, alloc, program, &log, answer)
+    judged(rt, alloc, program, answer, RESUMED)
 }

@@ -1,6 +1,6 @@
 //! Sources that become programs with little memory.
 
-use crate::tests::made;
+use crate::tests::made::{self, Got};
 use crate::tests::memory::hoard::Spare;
 use crate::tests::memory::lent::is_program;
 use crate::tests::memory::{Came, all_but};
@@ -21,11 +21,11 @@ transitions input roll eff all := append(all, d) output tell pre s = sum propose
 internal add pre len(all) > 0 eff for x in all do sum := sum + x od; all := empty(S) \
 composition Game components D: Dice(6) crash down recover up; K: Keep";
 
-/// What came of it that is refused so, when what was lent is as it was.
-fn refused(refusal: Refusal, is_kept: bool) -> Came {
+/// What came of it that is refused so.
+fn refused(refusal: Refusal) -> Came {
     match refusal {
-        Refusal::OutOfMemory => Came::Wanting(is_kept),
-        _ => Came::Answered(false),
+        Refusal::OutOfMemory => Came::Wanting,
+        _ => Came::Wrong,
     }
 }
 
@@ -48,7 +48,7 @@ fn is_checked(rt: &impl Abort, alloc: Global, checked: &Checked) -> bool {
 
 /// Whether the composition is compiled to the program that there is with ample memory.
 fn is_composed(rt: &impl Abort, alloc: Global, composition: &Composition) -> bool {
-    let program = compile(alloc, composition).expect(rt, "memory");
+    let program = compile(alloc, composition).got(rt);
     is_program(rt, alloc, &program, THROWS)
 }
 
@@ -57,8 +57,8 @@ pub fn parsed(rt: &impl Abort, alloc: Global, spare: Spare) -> Came {
     let answer = parse(alloc, THROWS.as_bytes());
     drop(hoard);
     match answer {
-        Ok(source) => Came::Answered(source.same(&made::parsed(rt, alloc, THROWS.as_bytes()))),
-        Err(refusal) => refused(refusal, true),
+        Ok(source) => Came::Answered.and(source.same(&made::parsed(rt, alloc, THROWS.as_bytes()))),
+        Err(refusal) => refused(refusal),
     }
 }
 
@@ -68,8 +68,8 @@ pub fn checked(rt: &impl Abort, alloc: Global, spare: Spare) -> Came {
     let answer = check(alloc, source);
     drop(hoard);
     match answer {
-        Ok(checked) => Came::Answered(is_checked(rt, alloc, &checked)),
-        Err(refusal) => refused(refusal, true),
+        Ok(checked) => Came::Answered.and(is_checked(rt, alloc, &checked)),
+        Err(refusal) => refused(refusal),
     }
 }
 
@@ -78,10 +78,11 @@ pub fn composed(rt: &impl Abort, alloc: Global, spare: Spare) -> Came {
     let hoard = all_but(rt, alloc, spare);
     let answer = compose(alloc, &checked, None);
     drop(hoard);
-    match answer {
-        Ok(composition) => Came::Answered(is_composed(rt, alloc, &composition)),
-        Err(refusal) => refused(refusal, is_checked(rt, alloc, &checked)),
-    }
+    let came = match answer {
+        Ok(composition) => Came::Answered.and(is_composed(rt, alloc, &composition)),
+        Err(refusal) => refused(refusal),
+    };
+    came.and(is_checked(rt, alloc, &checked))
 }
 
 pub fn compiled(rt: &impl Abort, alloc: Global, spare: Spare) -> Came {
@@ -89,8 +90,9 @@ pub fn compiled(rt: &impl Abort, alloc: Global, spare: Spare) -> Came {
     let hoard = all_but(rt, alloc, spare);
     let answer = compile(alloc, &composition);
     drop(hoard);
-    match answer {
-        Ok(program) => Came::Answered(is_program(rt, alloc, &program, THROWS)),
-        Err(_) => Came::Wanting(is_composed(rt, alloc, &composition)),
-    }
+    let came = match answer {
+        Ok(program) => Came::Answered.and(is_program(rt, alloc, &program, THROWS)),
+        Err(_) => Came::Wanting,
+    };
+    came.and(is_composed(rt, alloc, &composition))
 }

@@ -1,16 +1,15 @@
 //! Parts of code, steps, and whole lists and logs, with little memory.
 
 use crate::tests::code::{
-    DIFFERENCE, SUMMING, changed, changing, comparing, copied, holds, looping, numbered,
+    DIFFERENCE, SUMMING, changed, changing, comparing, holds, looping, number_of, numbered,
 };
 use crate::tests::drawn::{Given, proposing};
-use crate::tests::made;
+use crate::tests::made::{self, Got, Setting};
 use crate::tests::memory::hoard::Spare;
-use crate::tests::memory::lent::{are_actions, is_log, is_program};
+use crate::tests::memory::lent::{is_log, is_program};
 use crate::tests::memory::{Came, all_but};
 use crate::tests::reached::told_states;
 use crate::tests::resumed::TICKED;
-use crate::tests::rooms::script;
 use ioa_check::check;
 use ioa_code::CodeErr;
 use ioa_compile::{Program, compile};
@@ -18,19 +17,19 @@ use ioa_compose::{Composition, compose};
 use ioa_log::{Broken, LogErr, MonitorErr, invariants, monitor, replay};
 use ioa_node::propose;
 use ioa_system::{End, Run, Step, System, run_list};
-use ioa_value::Value;
+use ioa_value::{Action, Value};
 use std::alloc::Global;
 use std::process::Abort;
 
 /// The code of a loop that adds the items of a sequence to a number.
-pub fn verified(rt: &impl Abort, alloc: Global, program: &Program, spare: Spare) -> Came {
+pub fn verified(rt: &impl Abort, alloc: Global, lent: &Setting, spare: Spare) -> Came {
     let hoard = all_but(rt, alloc, spare);
-    let answer = looping(alloc, program.types(), SUMMING);
+    let answer = looping(alloc, lent.program.types(), SUMMING);
     drop(hoard);
     match answer {
-        Ok(code) => Came::Answered(code.bound() == 20),
-        Err(CodeErr::OutOfMemory) => Came::Wanting(true),
-        Err(_) => Came::Answered(false),
+        Ok(code) => Came::Answered.and(code.bound() == 20),
+        Err(CodeErr::OutOfMemory) => Came::Wanting,
+        Err(_) => Came::Wrong,
     }
 }
 
@@ -39,14 +38,14 @@ pub fn enabled(rt: &impl Abort, alloc: Global, spare: Spare) -> Came {
     let types = made::basic(rt, alloc);
     let code = comparing(rt, alloc, &types);
     let state = numbered(rt, alloc, &types, 5);
-    let kept = copied(rt, alloc, &state);
     let hoard = all_but(rt, alloc, spare);
     let answer = holds(alloc, &code, &state, 5);
     drop(hoard);
-    match answer {
-        Ok(answer) => Came::Answered(answer == Ok(true)),
-        Err(_) => Came::Wanting(state.same(&kept)),
-    }
+    let came = match answer {
+        Ok(answer) => Came::Answered.and(answer == Ok(true)),
+        Err(_) => Came::Wanting,
+    };
+    came.and(number_of(rt, alloc, &state) == Some(5))
 }
 
 /// An effect that lessens a variable by an argument.
@@ -54,81 +53,85 @@ pub fn effect(rt: &impl Abort, alloc: Global, spare: Spare) -> Came {
     let types = made::basic(rt, alloc);
     let code = changing(rt, alloc, &types, &DIFFERENCE);
     let state = numbered(rt, alloc, &types, 5);
-    let kept = copied(rt, alloc, &state);
-    let wanted = numbered(rt, alloc, &types, -2);
     let hoard = all_but(rt, alloc, spare);
     let answer = changed(alloc, &code, &state, 7);
     drop(hoard);
-    match answer {
-        Ok(Ok(after)) => Came::Answered(after.same(&wanted) && state.same(&kept)),
-        Ok(Err(_)) => Came::Answered(false),
-        Err(_) => Came::Wanting(state.same(&kept)),
-    }
+    let came = match answer {
+        Ok(Ok(after)) => Came::Answered.and(number_of(rt, alloc, &after) == Some(-2)),
+        Ok(Err(_)) => Came::Wrong,
+        Err(_) => Came::Wanting,
+    };
+    came.and(number_of(rt, alloc, &state) == Some(5))
 }
 
 /// A proposal by a word, which a refusal may have taken.
-pub fn proposed(rt: &impl Abort, alloc: Global, program: &Program, spare: Spare) -> Came {
-    let (code, state) = proposing(program, 0, 0).expect(rt, "a proposal");
-    let kept = copied(rt, alloc, state);
+pub fn proposed(rt: &impl Abort, alloc: Global, lent: &Setting, spare: Spare) -> Came {
+    let (code, state) = proposing(&lent.program, 0, 0).expect(rt, "a proposal");
     let mut words = Given { words: &[17, 4] };
     let hoard = all_but(rt, alloc, spare);
     let answer = propose(alloc, code, state, &mut words);
     drop(hoard);
     match answer {
         Ok(Some(values)) => {
-            let is_drawn = matches!(values.as_slice(), [Value::Num(5)]);
-            Came::Answered(is_drawn && words.words.len() == 1)
+            let is_five = matches!(values.as_slice(), [Value::Num(5)]);
+            Came::Answered.and(is_five && words.words.len() == 1)
         }
-        Ok(None) => Came::Answered(false),
-        Err(_) => Came::Wanting(state.same(&kept)),
+        Ok(None) => Came::Wrong,
+        Err(_) => Came::Wanting,
     }
 }
+
+/// The states before the last action of a setting, and behind it.
+type Stepped = (&'static str, &'static str);
 
 /// A step of two components.
-pub fn stepped(rt: &impl Abort, alloc: Global, program: &Program, spare: Spare) -> Came {
-    let action = made::action(rt, alloc, program.types(), "roll(5)");
-    let mut system = System::start(alloc, program).expect(rt, "memory");
-    let hoard = all_but(rt, alloc, spare);
-    let answer = system.step(&action);
-    drop(hoard);
-    let now = told_states(rt, alloc, program.types(), system.states());
-    match answer {
-        Ok(step) => Came::Answered(
-            step == Step::Next && now.as_str() == ", state(1, true), state(5)",
-        ),
-        Err(_) => Came::Wanting(now.as_str() == ", state(0, true), state(0)"),
-    }
-}
+pub static ROLLED: Stepped = (", state(0, true), state(0)", ", state(1, true), state(5)");
 
 /// A step whose effect is a loop over two items.
-pub fn folded(rt: &impl Abort, alloc: Global, program: &Program, spare: Spare) -> Came {
-    let mut system = System::start(alloc, program).expect(rt, "memory");
-    for action in &script(rt, alloc, program.types(), &["put(2)", "put(5)"]) {
-        assert!(rt; system.step(action).expect(rt, "memory") == Step::Next);
+pub static FOLDED: Stepped = (", state(S[2, 5], 0)", ", state(S[], 7)");
+
+/// The system in which the actions are performed.
+fn reached_by<'a>(
+    rt: &impl Abort,
+    alloc: Global,
+    program: &'a Program,
+    actions: &[Action],
+) -> System<'a> {
+    let mut system = System::start(alloc, program).got(rt);
+    for action in actions {
+        assert!(rt; system.step(action).got(rt) == Step::Next);
     }
-    let fold = made::action(rt, alloc, program.types(), "fold");
+    system
+}
+
+/// The step of the last action.
+pub fn stepped(
+    rt: &impl Abort,
+    alloc: Global,
+    lent: &Setting,
+    states: &Stepped,
+    spare: Spare,
+) -> Came {
+    let (last, first) = lent.script.split_last().expect(rt, "an action");
+    let mut system = reached_by(rt, alloc, &lent.program, first);
     let hoard = all_but(rt, alloc, spare);
-    let answer = system.step(&fold);
+    let answer = system.step(last);
     drop(hoard);
-    let now = told_states(rt, alloc, program.types(), system.states());
+    let now = told_states(rt, alloc, lent.program.types(), system.states());
     match answer {
-        Ok(step) => Came::Answered(step == Step::Next && now.as_str() == ", state(S[], 7)"),
-        Err(_) => Came::Wanting(now.as_str() == ", state(S[2, 5], 0)"),
+        Ok(step) => Came::Answered.and(step == Step::Next && now.as_str() == states.1),
+        Err(_) => Came::Wanting.and(now.as_str() == states.0),
     }
 }
 
-/// What some actions of the game come to.
-static PLAYED: [&str; 3] = ["roll(5)", "down", "roll(1)"];
-
 /// A list whose last action is not enabled.
-pub fn run(rt: &impl Abort, alloc: Global, program: &Program, spare: Spare) -> Came {
-    let actions = script(rt, alloc, program.types(), &PLAYED);
+pub fn run(rt: &impl Abort, alloc: Global, lent: &Setting, spare: Spare) -> Came {
     let hoard = all_but(rt, alloc, spare);
-    let answer = run_list(alloc, program, &actions);
+    let answer = run_list(alloc, &lent.program, &lent.script);
     drop(hoard);
     match answer {
-        Ok(run) => Came::Answered(is_played(rt, alloc, program, &run)),
-        Err(_) => Came::Wanting(are_actions(rt, alloc, program.types(), &actions, &PLAYED)),
+        Ok(run) => Came::Answered.and(is_played(rt, alloc, &lent.program, &run)),
+        Err(_) => Came::Wanting,
     }
 }
 
@@ -140,45 +143,41 @@ fn is_played(rt: &impl Abort, alloc: Global, program: &Program, run: &Run) -> bo
         && states.as_str() == ", state(1, false), state(5)"
 }
 
+/// What came of a log that is refused so.
+pub fn refused(error: LogErr) -> Came {
+    match error {
+        LogErr::OutOfMemory => Came::Wanting,
+        _ => Came::Wrong,
+    }
+}
+
 /// The log of the counter's run.
-pub fn replayed(rt: &impl Abort, alloc: Global, program: &Program, spare: Spare) -> Came {
-    let log = made::log(rt, alloc, program.types(), TICKED);
+pub fn replayed(rt: &impl Abort, alloc: Global, lent: &Setting, spare: Spare) -> Came {
     let hoard = all_but(rt, alloc, spare);
-    let answer = replay(alloc, program, &log);
+    let answer = replay(alloc, &lent.program, &lent.log);
     drop(hoard);
-    let is_kept = is_log(rt, alloc, program.types(), &log, TICKED);
     match answer {
-        Ok(run) => Came::Answered(run.end == End::Done(3) && run.performed == 3 && is_kept),
-        Err(LogErr::OutOfMemory) => Came::Wanting(is_kept),
-        Err(_) => Came::Answered(false),
+        Ok(run) => Came::Answered.and(run.end == End::Done(3) && run.performed == 3),
+        Err(error) => refused(error),
     }
 }
 
 /// Actions of which the specification does not accept the third one.
-static MONITORED: [&str; 3] = ["tick(5)", "other", "tick(7)"];
-
-pub fn monitored(rt: &impl Abort, alloc: Global, program: &Program, spare: Spare) -> Came {
-    let actions = script(rt, alloc, program.types(), &MONITORED);
+pub fn monitored(rt: &impl Abort, alloc: Global, lent: &Setting, spare: Spare) -> Came {
     let hoard = all_but(rt, alloc, spare);
-    let answer = monitor(alloc, program, &actions);
+    let answer = monitor(alloc, &lent.program, &lent.script);
     drop(hoard);
     match answer {
-        Err(MonitorErr::OutOfMemory) => Came::Wanting(are_actions(
-            rt,
-            alloc,
-            program.types(),
-            &actions,
-            &MONITORED,
-        )),
-        answer => Came::Answered(
-            answer
-                == Err(MonitorErr::At {
-                    index: 2,
-                    answer: Step::NotEnabled,
-                }),
-        ),
+        Err(MonitorErr::OutOfMemory) => Came::Wanting,
+        answer => Came::Answered.and(answer == Err(UNACCEPTED)),
     }
 }
+
+/// What the monitor answers.
+const UNACCEPTED: MonitorErr = MonitorErr::At {
+    index: 2,
+    answer: Step::NotEnabled,
+};
 
 /// The counter, which is to stay below seven.
 const BELOW: &str = "automaton Counter(start: Int) signature output tick(k: Int); input reset \
@@ -193,7 +192,7 @@ pub fn bounded(rt: &impl Abort, alloc: Global) -> Composition {
 
 /// Whether the composition is compiled as it is with ample memory, and its invariant is broken.
 pub fn is_bounded(rt: &impl Abort, alloc: Global, composition: &Composition) -> bool {
-    let program = compile(alloc, composition).expect(rt, "memory");
+    let program = compile(alloc, composition).got(rt);
     let log = made::log(rt, alloc, program.types(), TICKED);
     let broken = invariants(alloc, composition, &log).expect(rt, "a log of the program");
     broken == Some(BROKEN) && is_program(rt, alloc, &program, BELOW)
@@ -213,12 +212,10 @@ pub fn asked(rt: &impl Abort, alloc: Global, spare: Spare) -> Came {
     let hoard = all_but(rt, alloc, spare);
     let answer = invariants(alloc, &composition, &log);
     drop(hoard);
-    match answer {
-        Err(LogErr::OutOfMemory) => Came::Wanting(
-            is_bounded(rt, alloc, &composition)
-                && is_log(rt, alloc, composition.types(), &log, TICKED),
-        ),
-        Err(_) => Came::Answered(false),
-        Ok(broken) => Came::Answered(broken == Some(BROKEN)),
-    }
+    let came = match answer {
+        Ok(broken) => Came::Answered.and(broken == Some(BROKEN)),
+        Err(error) => refused(error),
+    };
+    came.and(is_log(rt, alloc, composition.types(), &log, TICKED))
+        .and(is_bounded(rt, alloc, &composition))
 }

@@ -1,16 +1,15 @@
 //! Objects, logs and lists that are written and read with little memory.
 
-use crate::tests::made;
+use crate::tests::made::{self, Got, Setting};
 use crate::tests::memory::hoard::Spare;
 use crate::tests::memory::lent::{is_log, is_program};
 use crate::tests::memory::sources::THROWS;
-use crate::tests::memory::steps::{BROKEN, bounded, is_bounded};
+use crate::tests::memory::steps::{BROKEN, bounded, is_bounded, refused};
 use crate::tests::memory::{Came, all_but};
 use crate::tests::resumed::TICKED;
-use ioa_compile::Program;
 use ioa_log::{
-    Counted, LogErr, hides_actions, inspect_log, log_list, monitor_log, read_log, replay_list,
-    replay_log, write_log,
+    Counted, LogErr, LogInspection, hides_actions, inspect_log, log_list, monitor_log, read_log,
+    replay_list, replay_log, write_log,
 };
 use ioa_object::{ObjErr, read_object, write_object};
 use ioa_system::End;
@@ -23,17 +22,21 @@ const ROOM: usize = 4096;
 /// The object of the throws.
 fn object(rt: &impl Abort, alloc: Global) -> Vec<u8> {
     let program = made::program(rt, alloc, THROWS, None);
-    write_object(alloc, &program).expect(rt, "memory")
+    write_object(alloc, &program).got(rt)
 }
 
-pub fn object_written(rt: &impl Abort, alloc: Global, program: &Program, spare: Spare) -> Came {
+pub fn object_written(rt: &impl Abort, alloc: Global, lent: &Setting, spare: Spare) -> Came {
     let hoard = all_but(rt, alloc, spare);
-    let answer = write_object(alloc, program);
+    let answer = write_object(alloc, &lent.program);
     drop(hoard);
     match answer {
-        Ok(bytes) => Came::Answered(bytes.as_slice() == object(rt, alloc).as_slice()),
-        Err(_) => Came::Wanting(true),
+        Ok(bytes) => Came::Answered.and(is_object(rt, alloc, &bytes)),
+        Err(_) => Came::Wanting,
     }
+}
+
+fn is_object(rt: &impl Abort, alloc: Global, bytes: &[u8]) -> bool {
+    object(rt, alloc).as_slice() == bytes
 }
 
 pub fn object_read(rt: &impl Abort, alloc: Global, spare: Spare) -> Came {
@@ -41,61 +44,49 @@ pub fn object_read(rt: &impl Abort, alloc: Global, spare: Spare) -> Came {
     let hoard = all_but(rt, alloc, spare);
     let answer = read_object(alloc, &bytes);
     drop(hoard);
-    match answer {
-        Ok(program) => Came::Answered(is_program(rt, alloc, &program, THROWS)),
-        Err(ObjErr::OutOfMemory) => {
-            Came::Wanting(bytes.as_slice() == object(rt, alloc).as_slice())
-        }
-        Err(_) => Came::Answered(false),
-    }
+    let came = match answer {
+        Ok(program) => Came::Answered.and(is_program(rt, alloc, &program, THROWS)),
+        Err(ObjErr::OutOfMemory) => Came::Wanting,
+        Err(_) => Came::Wrong,
+    };
+    came.and(is_object(rt, alloc, &bytes))
 }
 
 /// A writer with nothing in it yet.
 fn writer(rt: &impl Abort, alloc: Global) -> Counted<Vec<u8>> {
-    Counted::new(Vec::with_capacity(alloc, ROOM).expect(rt, "memory"))
+    Counted::new(Vec::with_capacity(alloc, ROOM).got(rt))
 }
 
-/// What came of it that is refused so, when what was lent is as it was, a writer as it was when nothing is written.
-fn refused(error: LogErr, is_kept: bool) -> Came {
-    match error {
-        LogErr::OutOfMemory => Came::Wanting(is_kept),
-        _ => Came::Answered(false),
-    }
-}
-
-/// What came of a call that answers so with ample memory, and writes this.
+/// What came of a call that answers so with ample memory, and writes this, and else nothing.
 fn judged(output: Counted<Vec<u8>>, answer: Result<End, LogErr>, wanted: (End, &str)) -> Came {
     let written = output.into_inner();
     match answer {
-        Ok(end) => Came::Answered(end == wanted.0 && written.as_slice() == wanted.1.as_bytes()),
-        Err(error) => refused(error, written.is_empty()),
+        Ok(end) => Came::Answered.and(end == wanted.0 && written.as_slice() == wanted.1.as_bytes()),
+        Err(error) => refused(error).and(written.is_empty()),
     }
 }
 
-pub fn log_written(rt: &impl Abort, alloc: Global, program: &Program, spare: Spare) -> Came {
-    let log = made::log(rt, alloc, program.types(), TICKED);
+pub fn log_written(rt: &impl Abort, alloc: Global, lent: &Setting, spare: Spare) -> Came {
     let mut output = writer(rt, alloc);
     let hoard = all_but(rt, alloc, spare);
-    let answer = write_log(alloc, program.types(), &log, &mut output);
+    let answer = write_log(alloc, lent.program.types(), &lent.log, &mut output);
     drop(hoard);
     let written = output.into_inner();
     match answer {
-        Ok(()) => Came::Answered(written.as_slice() == TICKED.as_bytes()),
-        Err(error) => {
-            let is_kept = is_log(rt, alloc, program.types(), &log, TICKED);
-            refused(error, written.is_empty() && is_kept)
-        }
+        Ok(()) => Came::Answered.and(written.as_slice() == TICKED.as_bytes()),
+        Err(error) => refused(error).and(written.is_empty()),
     }
 }
 
-pub fn log_read(rt: &impl Abort, alloc: Global, program: &Program, spare: Spare) -> Came {
+pub fn log_read(rt: &impl Abort, alloc: Global, lent: &Setting, spare: Spare) -> Came {
+    let types = lent.program.types();
     let mut input = Counted::new(TICKED.as_bytes());
     let hoard = all_but(rt, alloc, spare);
-    let answer = read_log(alloc, program.types(), &mut input);
+    let answer = read_log(alloc, types, &mut input);
     drop(hoard);
     match answer {
-        Ok(log) => Came::Answered(is_log(rt, alloc, program.types(), &log, TICKED)),
-        Err(error) => refused(error, true),
+        Ok(log) => Came::Answered.and(is_log(rt, alloc, types, &log, TICKED)),
+        Err(error) => refused(error),
     }
 }
 
@@ -104,24 +95,23 @@ const LIST: &str = "tick(5)\ntick(6)\nreset\ntick(6)\n";
 
 const REPLAYED: &str = "tick(5)\ntick(6)\nreset\nend: not enabled at 3\n";
 
-pub fn list_replayed(rt: &impl Abort, alloc: Global, program: &Program, spare: Spare) -> Came {
+pub fn list_replayed(rt: &impl Abort, alloc: Global, lent: &Setting, spare: Spare) -> Came {
     let mut input = Counted::new(LIST.as_bytes());
     let mut output = writer(rt, alloc);
     let hoard = all_but(rt, alloc, spare);
-    let answer = replay_list(alloc, program, &mut input, &mut output);
+    let answer = replay_list(alloc, &lent.program, &mut input, &mut output);
     drop(hoard);
-    let wanted = (End::NotEnabled(3), REPLAYED);
-    judged(output, answer, wanted)
+    judged(output, answer, (End::NotEnabled(3), REPLAYED))
 }
 
 /// What is written of the run that the log tells.
 const TRACE: &str = "tick(5)\ntick(6)\nreset\nend: done after 3\n";
 
-pub fn log_replayed(rt: &impl Abort, alloc: Global, program: &Program, spare: Spare) -> Came {
+pub fn log_replayed(rt: &impl Abort, alloc: Global, lent: &Setting, spare: Spare) -> Came {
     let mut input = Counted::new(TICKED.as_bytes());
     let mut output = writer(rt, alloc);
     let hoard = all_but(rt, alloc, spare);
-    let answer = replay_log(alloc, program, &mut input, &mut output);
+    let answer = replay_log(alloc, &lent.program, &mut input, &mut output);
     drop(hoard);
     judged(output, answer, (End::Done(3), TRACE))
 }
@@ -129,31 +119,30 @@ pub fn log_replayed(rt: &impl Abort, alloc: Global, program: &Program, spare: Sp
 /// The list whose log is read elsewhere, and an action that is not enabled.
 const LOGGED: &str = "tick(5)\ntick(6)\nreset\ntick(6)\n";
 
-pub fn list_logged(rt: &impl Abort, alloc: Global, program: &Program, spare: Spare) -> Came {
+pub fn list_logged(rt: &impl Abort, alloc: Global, lent: &Setting, spare: Spare) -> Came {
     let mut input = Counted::new(LOGGED.as_bytes());
     let mut output = writer(rt, alloc);
     let hoard = all_but(rt, alloc, spare);
-    let answer = log_list(alloc, program, &mut input, &mut output);
+    let answer = log_list(alloc, &lent.program, &mut input, &mut output);
     drop(hoard);
-    let wanted = (End::NotEnabled(3), TICKED);
-    judged(output, answer, wanted)
+    judged(output, answer, (End::NotEnabled(3), TICKED))
 }
 
 /// A log that the counter accepts as a specification, less its last action.
 const UNACCEPTED: &str =
     "{\"act\":\"tick(5)\",\"who\":0}\n{\"act\":\"tock\",\"who\":3}\n{\"act\":\"tick(7)\",\"who\":0}\n{\"end\":\"done after 3\"}\n";
 
-pub fn log_monitored(rt: &impl Abort, alloc: Global, program: &Program, spare: Spare) -> Came {
+pub fn log_monitored(rt: &impl Abort, alloc: Global, lent: &Setting, spare: Spare) -> Came {
     let mut input = Counted::new(UNACCEPTED.as_bytes());
-    if hides_actions(program) {
-        return Came::Answered(false);
+    if hides_actions(&lent.program) {
+        return Came::Wrong;
     }
     let hoard = all_but(rt, alloc, spare);
-    let answer = monitor_log(alloc, program, &mut input);
+    let answer = monitor_log(alloc, &lent.program, &mut input);
     drop(hoard);
     match answer {
-        Ok(answer) => Came::Answered(answer == Some(End::NotEnabled(2))),
-        Err(error) => refused(error, true),
+        Ok(answer) => Came::Answered.and(answer == Some(End::NotEnabled(2))),
+        Err(error) => refused(error),
     }
 }
 
@@ -163,12 +152,15 @@ pub fn log_inspected(rt: &impl Abort, alloc: Global, spare: Spare) -> Came {
     let hoard = all_but(rt, alloc, spare);
     let answer = inspect_log(alloc, &composition, &mut input);
     drop(hoard);
-    match answer {
-        Ok(found) => Came::Answered(
-            found.broken == Some(BROKEN)
-                && found.replayed.end == End::Done(3)
-                && found.replayed.text.as_str() == TRACE,
-        ),
-        Err(error) => refused(error, is_bounded(rt, alloc, &composition)),
-    }
+    let came = match answer {
+        Ok(found) => Came::Answered.and(is_found(&found)),
+        Err(error) => refused(error),
+    };
+    came.and(is_bounded(rt, alloc, &composition))
+}
+
+fn is_found(found: &LogInspection) -> bool {
+    found.broken == Some(BROKEN)
+        && found.replayed.end == End::Done(3)
+        && found.replayed.text.as_str() == TRACE
 }
