@@ -82,6 +82,7 @@ unprinted counts.list replay counter.ioa
 unprinted counts.list replay counter
 unprinted counts.list replay counter.ioa --states
 unprinted counts.list replay counter.ioa --enabled
+unprinted counts.list replay counter.ioa --coverage
 unprinted counts.list replay counter.ioa --json
 unprinted too_soon.list replay counter.ioa --explain
 unprinted long.log replay counter.ioa --log
@@ -108,6 +109,8 @@ untold check types.ioa --explain
 untold dump counter.ioa
 untold replay counter.ioa --comp Nine
 untold run counter.ioa --alone --turns 2 --reports
+untold run counter.ioa --alone --turns 2 --coverage
+untold replay counter.ioa --coverage
 untold run counter.ioa --turns many
 untold explain E99
 untold compile types.ioa new

@@ -63,6 +63,8 @@ for source in "$top"/*/*.ioa; do
       [ -f "$list" ] || continue
       both replay "$list"
       both replay "$list" --log
+      both replay "$list" --coverage
+      both replay "$list" --log --coverage
       both monitor "$list"
       both chart "$list"
     done

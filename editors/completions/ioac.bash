@@ -20,9 +20,9 @@ _ioac() {
     check) options='--compositions --explain --help' ;;
     compile) options='--comp --explain --help' ;;
     dump) options='--explain --help' ;;
-    replay) options='--comp --log --invariants --states --enabled --until --json --explain --help' ;;
+    replay) options='--comp --log --invariants --states --enabled --coverage --until --json --explain --help' ;;
     log) options='--comp --log --until --explain --help' ;;
-    run) options='--comp --alone --turns --seed --words --seeds --monitor --invariants --keep --json --inputs --resume --log --reports --explain --help' ;;
+    run) options='--comp --alone --turns --seed --words --seeds --monitor --invariants --keep --json --inputs --resume --log --reports --coverage --explain --help' ;;
     monitor) options='--comp --strict --json --explain --help' ;;
     watch) options='--comp --first --json --explain --help' ;;
     chart) options='--comp --from --to --without --explain --help' ;;

@@ -61,7 +61,7 @@ pub use monitors::{MonitorErr, hides_actions, monitor};
 pub use reading::Replayed;
 pub use replays::{perform_list, replay_list};
 pub use run_logs::log_list;
-pub use streams::{blamed, send_all};
+pub use streams::{blamed, read_all, send_all};
 pub use trace::Trace;
 // What logs are is defined beside the runs that they tell.
 pub use ioa_system::{Log, LogEnd, LogEntry};

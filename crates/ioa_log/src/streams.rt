@@ -13,7 +13,10 @@ use std::alloc::Global;
 pub(crate) const PIECE: usize = 65_536;
 
 /// All that a reader gives.
-pub(crate) fn read_all<R: InputDevice>(alloc: Global, input: &mut R) -> Result<Vec<u8>, LogErr>
+///
+/// # Errors
+/// `Io` exactly where the reader failed in this call; `OutOfMemory`.
+pub fn read_all<R: InputDevice>(alloc: Global, input: &mut R) -> Result<Vec<u8>, LogErr>
     ensures ok { IfOk result (λ text. IfSome (R.remaining input.old) (λ bytes. text.items ≡ bytes)) }
     ensures io { IsErrOf result LogErr.Io → HasFailed (R.failure_count input.old) (R.failure_count input.new) }
     ensures passed { (IsErrOf result LogErr.Io → ⊥) → R.failure_count input.new ≡ R.failure_count input.old }

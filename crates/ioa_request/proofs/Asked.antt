@@ -72,6 +72,7 @@ no_file word rows other another none (Request.ReplayStates file composition show
 no_file word rows other another none (Request.ReplayLog file composition json) h = let z : None ≡ Some file.now = sym none ∙ h.1.0 in cc
 no_file word rows other another none (Request.ReplayLogStates file composition shown) h = let z : None ≡ Some file.now = sym none ∙ h.1.0 in cc
 no_file word rows other another none (Request.ReplayInvariants file composition json) h = let z : None ≡ Some file.now = sym none ∙ h.1.0 in cc
+no_file word rows other another none (Request.ReplayCoverage file composition asked json) h = let z : None ≡ Some file.now = sym none ∙ h.1.0 in cc
 no_file word rows other another none (Request.Log file composition) h = let z : None ≡ Some file.now = sym none ∙ h.1.0 in cc
 no_file word rows other another none (Request.LogByLog file composition) h = let z : None ≡ Some file.now = sym none ∙ h.1.0 in cc
 no_file word rows other another none (Request.Monitor file composition) h = let z : None ≡ Some file.now = sym none ∙ h.1.0 in cc
@@ -96,6 +97,7 @@ no_explanation rows none (Request.ReplayStates file composition shown) h = apart
 no_explanation rows none (Request.ReplayLog file composition json) h = apart (codes "explain") (codes "replay") refl refl h.0.0
 no_explanation rows none (Request.ReplayLogStates file composition shown) h = apart (codes "explain") (codes "replay") refl refl h.0.0
 no_explanation rows none (Request.ReplayInvariants file composition json) h = apart (codes "explain") (codes "replay") refl refl h.0.0
+no_explanation rows none (Request.ReplayCoverage file composition asked json) h = apart (codes "explain") (codes "replay") refl refl h.0.0
 no_explanation rows none (Request.Log file composition) h = apart (codes "explain") (codes "log") refl refl h.0.0
 no_explanation rows none (Request.LogByLog file composition) h = apart (codes "explain") (codes "log") refl refl h.0.0
 no_explanation rows none (Request.Monitor file composition) h = apart (codes "explain") (codes "monitor") refl refl h.0
@@ -119,6 +121,7 @@ no_out rows none (Request.ReplayStates file composition shown) h = apart (codes 
 no_out rows none (Request.ReplayLog file composition json) h = apart (codes "compile") (codes "replay") refl refl h.0.0
 no_out rows none (Request.ReplayLogStates file composition shown) h = apart (codes "compile") (codes "replay") refl refl h.0.0
 no_out rows none (Request.ReplayInvariants file composition json) h = apart (codes "compile") (codes "replay") refl refl h.0.0
+no_out rows none (Request.ReplayCoverage file composition asked json) h = apart (codes "compile") (codes "replay") refl refl h.0.0
 no_out rows none (Request.Log file composition) h = apart (codes "compile") (codes "log") refl refl h.0.0
 no_out rows none (Request.LogByLog file composition) h = apart (codes "compile") (codes "log") refl refl h.0.0
 no_out rows none (Request.Monitor file composition) h = apart (codes "compile") (codes "monitor") refl refl h.0
@@ -142,6 +145,7 @@ no_specification rows none (Request.ReplayStates file composition shown) h = apa
 no_specification rows none (Request.ReplayLog file composition json) h = apart (codes "watch") (codes "replay") refl refl h.0.0
 no_specification rows none (Request.ReplayLogStates file composition shown) h = apart (codes "watch") (codes "replay") refl refl h.0.0
 no_specification rows none (Request.ReplayInvariants file composition json) h = apart (codes "watch") (codes "replay") refl refl h.0.0
+no_specification rows none (Request.ReplayCoverage file composition asked json) h = apart (codes "watch") (codes "replay") refl refl h.0.0
 no_specification rows none (Request.Log file composition) h = apart (codes "watch") (codes "log") refl refl h.0.0
 no_specification rows none (Request.LogByLog file composition) h = apart (codes "watch") (codes "log") refl refl h.0.0
 no_specification rows none (Request.Monitor file composition) h = apart (codes "watch") (codes "monitor") refl refl h.0
@@ -165,6 +169,7 @@ no_selection rows none (Request.ReplayStates file composition shown) h = apart (
 no_selection rows none (Request.ReplayLog file composition json) h = apart (codes "chart") (codes "replay") refl refl h.0.0
 no_selection rows none (Request.ReplayLogStates file composition shown) h = apart (codes "chart") (codes "replay") refl refl h.0.0
 no_selection rows none (Request.ReplayInvariants file composition json) h = apart (codes "chart") (codes "replay") refl refl h.0.0
+no_selection rows none (Request.ReplayCoverage file composition asked json) h = apart (codes "chart") (codes "replay") refl refl h.0.0
 no_selection rows none (Request.Log file composition) h = apart (codes "chart") (codes "log") refl refl h.0.0
 no_selection rows none (Request.LogByLog file composition) h = apart (codes "chart") (codes "log") refl refl h.0.0
 no_selection rows none (Request.Monitor file composition) h = apart (codes "chart") (codes "monitor") refl refl h.0
@@ -188,6 +193,7 @@ no_log word rows is log invariants (Request.ReplayStates file composition shown)
 no_log word rows is log invariants (Request.ReplayLog file composition json) h = false≢true (sym log ∙ h.0.1)
 no_log word rows is log invariants (Request.ReplayLogStates file composition shown) h = false≢true (sym log ∙ h.0.1)
 no_log word rows is log invariants (Request.ReplayInvariants file composition json) h = false≢true (sym log ∙ h.0.1)
+no_log word rows is log invariants (Request.ReplayCoverage file composition asked json) h = false≢true (sym h.0.2 ∙ invariants)
 no_log word rows is log invariants (Request.Log file composition) h = apart (codes "replay") (codes "log") refl refl (sym is ∙ h.0.0)
 no_log word rows is log invariants (Request.LogByLog file composition) h = apart (codes "replay") (codes "log") refl refl (sym is ∙ h.0.0)
 no_log word rows is log invariants (Request.Monitor file composition) h = apart (codes "replay") (codes "monitor") refl refl (sym is ∙ h.0)
@@ -211,6 +217,7 @@ no_both word rows s is invariants states (Request.ReplayStates file composition 
 no_both word rows s is invariants states (Request.ReplayLog file composition json) h = false≢true (sym h.0.2 ∙ invariants)
 no_both word rows s is invariants states (Request.ReplayLogStates file composition shown) h = false≢true (sym h.0.2 ∙ invariants)
 no_both word rows s is invariants states (Request.ReplayInvariants file composition json) h = let z : None ≡ Some s = sym h.0.3 ∙ states in cc
+no_both word rows s is invariants states (Request.ReplayCoverage file composition asked json) h = false≢true (sym h.0.2 ∙ invariants)
 no_both word rows s is invariants states (Request.Log file composition) h = apart (codes "replay") (codes "log") refl refl (sym is ∙ h.0.0)
 no_both word rows s is invariants states (Request.LogByLog file composition) h = apart (codes "replay") (codes "log") refl refl (sym is ∙ h.0.0)
 no_both word rows s is invariants states (Request.Monitor file composition) h = apart (codes "replay") (codes "monitor") refl refl (sym is ∙ h.0)
@@ -234,6 +241,7 @@ no_mixture word rows is mixed (Request.ReplayStates file composition shown) h = 
 no_mixture word rows is mixed (Request.ReplayLog file composition json) h = false≢true (sym h.0.5 ∙ mixed)
 no_mixture word rows is mixed (Request.ReplayLogStates file composition shown) h = false≢true (sym h.0.5 ∙ mixed)
 no_mixture word rows is mixed (Request.ReplayInvariants file composition json) h = false≢true (sym h.0.5 ∙ mixed)
+no_mixture word rows is mixed (Request.ReplayCoverage file composition asked json) h = false≢true (sym h.0.5 ∙ mixed)
 no_mixture word rows is mixed (Request.Log file composition) h = apart (codes "replay") (codes "log") refl refl (sym is ∙ h.0.0)
 no_mixture word rows is mixed (Request.LogByLog file composition) h = apart (codes "replay") (codes "log") refl refl (sym is ∙ h.0.0)
 no_mixture word rows is mixed (Request.Monitor file composition) h = apart (codes "replay") (codes "monitor") refl refl (sym is ∙ h.0)
@@ -250,6 +258,30 @@ no_mixture word rows is mixed (Request.Dump file) h = apart (codes "replay") (co
 no_mixture word rows is mixed (Request.Explain topic) h = apart (codes "replay") (codes "explain") refl refl (sym is ∙ h.0)
 no_mixture word rows is mixed Request.Library h = apart (codes "replay") (codes "library") refl refl (sym is ∙ h)
 
+-- where it is asked how often entries are performed, and for invariants or to tell of states
+pub no_covered : (word : Text) (rows : List Row) → word ≡ codes "replay" → is_set (codes "coverage") rows ≡ true → (is_set (codes "invariants") rows ≡ false → shown_by rows ≡ None → ⊥) → AsksNothing (Some (word, rows))
+no_covered word rows is covered other (Request.Replay file composition json) h = false≢true (sym h.0.6 ∙ covered)
+no_covered word rows is covered other (Request.ReplayStates file composition shown) h = false≢true (sym h.0.6 ∙ covered)
+no_covered word rows is covered other (Request.ReplayLog file composition json) h = false≢true (sym h.0.6 ∙ covered)
+no_covered word rows is covered other (Request.ReplayLogStates file composition shown) h = false≢true (sym h.0.6 ∙ covered)
+no_covered word rows is covered other (Request.ReplayInvariants file composition json) h = false≢true (sym h.0.6 ∙ covered)
+no_covered word rows is covered other (Request.ReplayCoverage file composition asked json) h = other h.0.2 h.0.3
+no_covered word rows is covered other (Request.Log file composition) h = apart (codes "replay") (codes "log") refl refl (sym is ∙ h.0.0)
+no_covered word rows is covered other (Request.LogByLog file composition) h = apart (codes "replay") (codes "log") refl refl (sym is ∙ h.0.0)
+no_covered word rows is covered other (Request.Monitor file composition) h = apart (codes "replay") (codes "monitor") refl refl (sym is ∙ h.0)
+no_covered word rows is covered other (Request.MonitorJson file composition) h = apart (codes "replay") (codes "monitor") refl refl (sym is ∙ h.0)
+no_covered word rows is covered other (Request.StrictMonitor file composition json) h = apart (codes "replay") (codes "monitor") refl refl (sym is ∙ h.0)
+no_covered word rows is covered other (Request.Watch file compositions first counts json) h = apart (codes "replay") (codes "watch") refl refl (sym is ∙ h.0)
+no_covered word rows is covered other (Request.Chart file composition selection) h = apart (codes "replay") (codes "chart") refl refl (sym is ∙ h.0)
+no_covered word rows is covered other (Request.Graph file composition) h = apart (codes "replay") (codes "graph") refl refl (sym is ∙ h.0)
+no_covered word rows is covered other (Request.Run s) h = apart (codes "replay") (codes "run") refl refl (sym is ∙ h.0)
+no_covered word rows is covered other (Request.Seeds s) h = apart (codes "replay") (codes "run") refl refl (sym is ∙ h.0)
+no_covered word rows is covered other (Request.Check file compositions) h = apart (codes "replay") (codes "check") refl refl (sym is ∙ h.0)
+no_covered word rows is covered other (Request.Compile file out composition) h = apart (codes "replay") (codes "compile") refl refl (sym is ∙ h.0)
+no_covered word rows is covered other (Request.Dump file) h = apart (codes "replay") (codes "dump") refl refl (sym is ∙ h.0)
+no_covered word rows is covered other (Request.Explain topic) h = apart (codes "replay") (codes "explain") refl refl (sym is ∙ h.0)
+no_covered word rows is covered other Request.Library h = apart (codes "replay") (codes "library") refl refl (sym is ∙ h)
+
 -- where the bound is no number up to which a list or a log is taken
 neither_one : (word other : Text) → (word ≡ codes "replay") ⊎ (word ≡ codes "log") → bytes_eq (codes "replay") other ≡ false → bytes_eq (codes "log") other ≡ false
     → bytes_eq other other ≡ true → word ≡ other → ⊥
@@ -262,6 +294,7 @@ no_bound word rows is none (Request.ReplayStates file composition shown) h = fal
 no_bound word rows is none (Request.ReplayLog file composition json) h = false≢true (sym none ∙ h.0.4)
 no_bound word rows is none (Request.ReplayLogStates file composition shown) h = false≢true (sym none ∙ h.0.4)
 no_bound word rows is none (Request.ReplayInvariants file composition json) h = false≢true (sym none ∙ h.0.4)
+no_bound word rows is none (Request.ReplayCoverage file composition asked json) h = false≢true (sym none ∙ h.0.4)
 no_bound word rows is none (Request.Log file composition) h = false≢true (sym none ∙ h.0.2)
 no_bound word rows is none (Request.LogByLog file composition) h = false≢true (sym none ∙ h.0.2)
 no_bound word rows is none (Request.Monitor file composition) h = neither_one word (codes "monitor") is refl refl refl h.0

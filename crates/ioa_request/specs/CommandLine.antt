@@ -80,6 +80,10 @@ states_rule = flag_rule (codes "states")
 abbrev pub enabled_rule : Rule
 enabled_rule = flag_rule (codes "enabled")
 
+-- `--coverage`
+abbrev pub coverage_rule : Rule
+coverage_rule = flag_rule (codes "coverage")
+
 -- `--until N`
 abbrev pub until_rule : Rule
 until_rule = option_rule (codes "until")
@@ -157,8 +161,8 @@ library_app = with_rule (new_app (codes "library")) explain_rule
 
 abbrev pub replay_app : App
 replay_app =
-    with_rule (with_rule (with_rule (with_rule (with_rule (with_rule (with_rule (with_rule (with_rule (new_app (codes "replay")) file_rule) comp_rule) log_rule) invariants_rule) states_rule) enabled_rule)
-    until_rule) json_rule) explain_rule
+    with_rule (with_rule (with_rule (with_rule (with_rule (with_rule (with_rule (with_rule (with_rule (with_rule (new_app (codes "replay")) file_rule) comp_rule) log_rule) invariants_rule) states_rule) enabled_rule)
+    coverage_rule) until_rule) json_rule) explain_rule
 
 abbrev pub log_app : App
 log_app = with_rule (with_rule (with_rule (with_rule (with_rule (new_app (codes "log")) file_rule) comp_rule) log_rule) until_rule) explain_rule
@@ -178,8 +182,8 @@ graph_app = with_rule (with_rule (with_rule (new_app (codes "graph")) file_rule)
 
 abbrev pub run_app : App
 run_app =
-    with_rule (with_rule (with_rule (with_rule (with_rule (with_rule (with_rule (with_rule (with_rule (with_rule (with_rule (with_rule (with_rule (with_rule (with_rule (with_rule (new_app (codes "run")) file_rule) comp_rule)
-    alone_rule) turns_rule) seed_rule) words_rule) seeds_rule) monitor_rule) invariants_rule) keep_rule) json_rule) inputs_rule) resume_rule) log_rule) reports_rule) explain_rule
+    with_rule (with_rule (with_rule (with_rule (with_rule (with_rule (with_rule (with_rule (with_rule (with_rule (with_rule (with_rule (with_rule (with_rule (with_rule (with_rule (with_rule (new_app (codes "run")) file_rule) comp_rule)
+    alone_rule) turns_rule) seed_rule) words_rule) seeds_rule) monitor_rule) invariants_rule) keep_rule) json_rule) inputs_rule) resume_rule) log_rule) reports_rule) coverage_rule) explain_rule
 
 -- a subcommand has to stand; where no word stands, help is given; there is a version, and a subcommand `help` of the crate that parses
 abbrev pub bare_app : App
@@ -227,11 +231,11 @@ shown_by rows = shown_in (is_set (codes "states") rows) (is_set (codes "enabled"
 abbrev pub mixes_json : List Row → Bool
 mixes_json rows = is_set (codes "json") rows && (is_set (codes "states") rows || is_set (codes "enabled") rows)
 
--- it is a replay, of a log or not, asked for invariants or not, and to tell this of states, or nothing
-abbrev pub IsReplayWith : Bool → Bool → Option Shown → Text × List Row → Type 0
-IsReplayWith log invariants shown found =
+-- it is a replay, of a log or not, asked for invariants or not, to tell this of states, or nothing, and how often entries are performed, or not
+abbrev pub IsReplayWith : Bool → Bool → Option Shown → Bool → Text × List Row → Type 0
+IsReplayWith log invariants shown coverage found =
     (found.0 ≡ codes "replay") × (is_set (codes "log") found.1 ≡ log) × (is_set (codes "invariants") found.1 ≡ invariants) × (shown_by found.1 ≡ shown)
-    × (is_bounded found.1 ≡ true) × (mixes_json found.1 ≡ false)
+    × (is_bounded found.1 ≡ true) × (mixes_json found.1 ≡ false) × (is_set (codes "coverage") found.1 ≡ coverage)
 
 -- it writes a log, of a log or of a list
 abbrev pub IsLogWith : Bool → Text × List Row → Type 0
@@ -255,6 +259,7 @@ pub record AreSettings (rows : List Row) (s : Settings) : Type 0 where
   pub resume : first_of (codes "resume") rows ≡ option_copied s.resume
   pub log : is_set (codes "log") rows ≡ s.log
   pub reports : is_set (codes "reports") rows ≡ s.reports
+  pub coverage : is_set (codes "coverage") rows ≡ s.coverage
 
 -- runs by many seeds are asked for, or what they alone have
 abbrev pub asks_seeds : List Row → Bool
@@ -290,19 +295,21 @@ pub record AreSelected (rows : List Row) (s : Selection) : Type 0 where
   pub without : texts s.without.now ≡ names_in (all_of (codes "without") rows)
 
 -- a subcommand with its values, if there is one, asks for this; a replay of a list cannot be asked for invariants, no replay for
--- invariants and to tell of states, and none for objects and to tell of states
+-- two of these: invariants, to tell of states, and how often entries are performed; and none for objects and to tell of states
 abbrev pub IsAskedBy : Option (Text × List Row) → Request → Type 0
 IsAskedBy None request = ⊥
 IsAskedBy (Some found) (Request.Replay file composition json) =
-    IsReplayWith false false None found × Names found.1 file.now (option_copied composition) × (is_set (codes "json") found.1 ≡ json)
+    IsReplayWith false false None false found × Names found.1 file.now (option_copied composition) × (is_set (codes "json") found.1 ≡ json)
 IsAskedBy (Some found) (Request.ReplayStates file composition shown) =
-    IsReplayWith false false (Some shown) found × Names found.1 file.now (option_copied composition)
+    IsReplayWith false false (Some shown) false found × Names found.1 file.now (option_copied composition)
 IsAskedBy (Some found) (Request.ReplayLog file composition json) =
-    IsReplayWith true false None found × Names found.1 file.now (option_copied composition) × (is_set (codes "json") found.1 ≡ json)
+    IsReplayWith true false None false found × Names found.1 file.now (option_copied composition) × (is_set (codes "json") found.1 ≡ json)
 IsAskedBy (Some found) (Request.ReplayLogStates file composition shown) =
-    IsReplayWith true false (Some shown) found × Names found.1 file.now (option_copied composition)
+    IsReplayWith true false (Some shown) false found × Names found.1 file.now (option_copied composition)
 IsAskedBy (Some found) (Request.ReplayInvariants file composition json) =
-    IsReplayWith true true None found × Names found.1 file.now (option_copied composition) × (is_set (codes "json") found.1 ≡ json)
+    IsReplayWith true true None false found × Names found.1 file.now (option_copied composition) × (is_set (codes "json") found.1 ≡ json)
+IsAskedBy (Some found) (Request.ReplayCoverage file composition log json) =
+    IsReplayWith log false None true found × Names found.1 file.now (option_copied composition) × (is_set (codes "json") found.1 ≡ json)
 IsAskedBy (Some found) (Request.Log file composition) = IsLogWith false found × Names found.1 file.now (option_copied composition)
 IsAskedBy (Some found) (Request.LogByLog file composition) = IsLogWith true found × Names found.1 file.now (option_copied composition)
 IsAskedBy (Some found) (Request.Monitor file composition) =

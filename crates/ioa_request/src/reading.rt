@@ -1,6 +1,6 @@
 //! How the matches of a command line are read as a request.
 
-ghost use Rattle.std.specs.Prelude.{◌≡◌, None, Some, codes, IfSome, IfNone};
+ghost use Rattle.std.specs.Prelude.{◌≡◌, None, Some, codes, false, true, IfSome, IfNone};
 ghost use Rattle.std.specs.Option.{option_copied};
 ghost use Rattle.clap.specs.Words.{first_of, found_of, rows_of, subcommand_rows_of};
 ghost use Rattle.ioa_request.specs.CommandLine as asked;
@@ -17,8 +17,8 @@ use crate::shown::read_shown;
 use clap::ArgMatches;
 
 /// The request of a command line without a fault. None where a word is missing, which a parse rules out, where there is nothing to explain,
-/// where the invariants of a list are asked for, or invariants and to tell of states, or objects and to tell of states, or where the settings of a run, or of runs
-/// by many seeds, or the bounds of a chart, of a list or of a log, are none.
+/// where the invariants of a list are asked for, or two of invariants, what is told of states and coverage, or objects and to tell of states, or where the settings
+/// of a run, or of runs by many seeds, or the bounds of a chart, of a list or of a log, are none.
 pub fn read_request<'m>(matches: &'m ArgMatches<'_>) -> Option<Request<'m>>
     ensures some { IfSome result (λ asked. IsAskedBy (subcommand_rows_of matches.now) asked) }
     ensures none { IfNone result ((asked : Request) → IsAskedBy (subcommand_rows_of matches.now) asked → ⊥) }
@@ -99,6 +99,9 @@ fn read_replay<'m>(found: &'m ArgMatches<'_>) -> Option<Request<'m>>
     if mixes_json(found) {
         return None;
     }
+    if is_set(found, "coverage") {
+        return read_covered(found, file, composition);
+    }
     let json = asks_json(found);
     match (
         is_set(found, "log"),
@@ -132,6 +135,33 @@ fn read_replay<'m>(found: &'m ArgMatches<'_>) -> Option<Request<'m>>
         }),
         (true, true, Some(_)) => None,
         (false, true, _) => None,
+    }
+}
+
+/// The request of a replay that is asked how often each entry is performed. None where it is asked for invariants, or to tell of states, too.
+fn read_covered<'m>(
+    found: &'m ArgMatches<'_>,
+    file: &'m str,
+    composition: Option<&'m str>,
+) -> Option<Request<'m>>
+    requires names { Names (rows_of (found_of found.now)) file.now (option_copied composition) }
+    requires bounded { asked.is_bounded (rows_of (found_of found.now)) ≡ true }
+    requires unmixed { asked.mixes_json (rows_of (found_of found.now)) ≡ false }
+    requires covered { asked.is_set (codes "coverage") (rows_of (found_of found.now)) ≡ true }
+    ensures some { IfSome result (λ asked. IsAskedBy (Some (codes "replay", rows_of (found_of found.now))) asked) }
+    ensures none { IfNone result ((asked : Request) → IsAskedBy (Some (codes "replay", rows_of (found_of found.now))) asked → ⊥) }
+{
+    let log = is_set(found, "log");
+    let json = asks_json(found);
+    match (is_set(found, "invariants"), read_shown(found)) {
+        (false, None) => Some(Request::ReplayCoverage {
+            file,
+            composition,
+            log,
+            json,
+        }),
+        (false, Some(_)) => None,
+        (true, _) => None,
     }
 }
 

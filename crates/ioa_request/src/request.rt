@@ -2,7 +2,7 @@
 
 ghost use Rattle.std.specs.Prelude.{◌≡◌, false, map, codes, IfOk};
 ghost use Rattle.clap.specs.Words.{App, FailsBy, Rule, app_of, fault_of, new_app, rule_of, subcommand_of, subcommand_rows_of, with_rule, with_subcommand};
-ghost use Rattle.ioa_request.specs.CommandLine.{IsLocal, check_app, comp_rule, compile_app, compositions_rule, dump_app, enabled_rule, explain_app, explain_rule, file_rule, graph_app, invariants_rule, ioac_app, library_app, log_app, log_rule, out_rule, replay_app, states_rule, text_rule};
+ghost use Rattle.ioa_request.specs.CommandLine.{IsLocal, check_app, comp_rule, compile_app, compositions_rule, coverage_rule, dump_app, enabled_rule, explain_app, explain_rule, file_rule, graph_app, invariants_rule, ioac_app, library_app, log_app, log_rule, out_rule, replay_app, states_rule, text_rule};
 
 use crate::arguments::{argument, flag, option};
 use crate::chart_usage::chart_command;
@@ -55,6 +55,15 @@ pub enum Request<'a> {
         file: &'a str,
         composition: Option<&'a str>,
         /// Whether objects are told.
+        json: bool,
+    },
+    /// To replay the list, or the log, on standard input in a composition of a source, or in an object, and to tell how often each entry is performed.
+    ReplayCoverage {
+        file: &'a str,
+        composition: Option<&'a str>,
+        /// Whether it is a log.
+        log: bool,
+        /// Whether objects are told of the run.
         json: bool,
     },
     /// To write the log of the run of the list on standard input in a composition of a source, or in an object.
@@ -240,6 +249,18 @@ fn enabled_flag<'a>(alloc: Global) -> Arg<'a>
     )
 }
 
+/// What tells how often each entry is performed.
+pub fn coverage_flag<'a>(alloc: Global) -> Arg<'a>
+    ensures rule { rule_of result ≡ coverage_rule }
+    ensures local { result.global ≡ false }
+{
+    flag(
+        alloc,
+        "coverage",
+        "How often each entry of each component is performed is told on standard error, and last which never are",
+    )
+}
+
 fn text_argument<'a>(alloc: Global) -> Arg<'a>
     ensures rule { rule_of result ≡ text_rule }
     ensures local { result.global ≡ false }
@@ -348,6 +369,7 @@ fn replay_command<'a>(alloc: Global) -> Result<Command<'a>, AllocError>
     let command = taking(command, invariants_flag(alloc));
     let command = taking(command, states_flag(alloc));
     let command = taking(command, enabled_flag(alloc));
+    let command = taking(command, coverage_flag(alloc));
     let command = taking(command, until_option(alloc));
     let command = taking(command, json_flag(alloc));
     taking(command, explain_flag(alloc))
@@ -370,7 +392,7 @@ fn described_replay<'a>(alloc: Global) -> Command<'a>
              4 list or log refused, invariant broken, or ended not enabled or not an action, 5 memory, the file or a device.",
         )
         .override_usage(
-            "ioac replay [--comp <NAME>] [--log [--invariants]] [--states] [--enabled] [--until <N>] [--json] [--explain] <FILE>",
+            "ioac replay [--comp <NAME>] [--log [--invariants]] [--states] [--enabled] [--coverage] [--until <N>] [--json] [--explain] <FILE>",
         )
 }
 

@@ -6,7 +6,7 @@ ghost use Rattle.ioa_request.specs.CommandLine.{IsLocal, alone_rule, inputs_rule
 
 use crate::arguments::{flag, option};
 use crate::monitor_usage::json_flag;
-use crate::request::{composition_option, explain_flag, file_argument, taking};
+use crate::request::{composition_option, coverage_flag, explain_flag, file_argument, taking};
 use clap::{Arg, ArgAction, Command};
 use std::alloc::{AllocError, Global};
 
@@ -170,6 +170,7 @@ pub fn run_command<'a>(alloc: Global) -> Result<Command<'a>, AllocError>
     let command = taking(command, resume_option(alloc));
     let command = taking(command, log_flag(alloc));
     let command = taking(command, reports_flag(alloc));
+    let command = taking(command, coverage_flag(alloc));
     taking(command, explain_flag(alloc))
 }
 
@@ -197,6 +198,6 @@ fn described_run<'a>(alloc: Global) -> Command<'a>
              4 inputs or log refused, a run not accepted, or no specification, 5 memory, a thread, a file or a device.",
         )
         .override_usage(
-            "ioac run [--comp <NAME>] [--alone] [--turns <N>] [--seed <HEX>|--words <WFILE>|--seeds <A..B> [--monitor <SPEC>].. [--invariants] [--keep <KFILE>] [--json]] [--inputs <LFILE>] [--resume <RFILE>] [--log] [--reports] [--explain] <FILE>",
+            "ioac run [--comp <NAME>] [--alone] [--turns <N>] [--seed <HEX>|--words <WFILE>|--seeds <A..B> [--monitor <SPEC>].. [--invariants] [--keep <KFILE>] [--json]] [--inputs <LFILE>] [--resume <RFILE>] [--log] [--reports] [--coverage] [--explain] <FILE>",
         )
 }

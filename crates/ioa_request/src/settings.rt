@@ -30,6 +30,8 @@ pub struct Settings<'a> {
     pub log: bool,
     /// Whether the workers' reports are told.
     pub reports: bool,
+    /// Whether it is told how often each entry is performed.
+    pub coverage: bool,
 }
 
 /// Where the words of a run's workers come from.
@@ -59,6 +61,7 @@ pub fn read_settings<'a>(found: &ArgMatches<'a>) -> Option<Settings<'a>>
     let resume = found.get_str("resume");
     let log = is_set(found, "log");
     let reports = is_set(found, "reports");
+    let coverage = is_set(found, "coverage");
     Some(Settings {
         file,
         composition,
@@ -69,6 +72,7 @@ pub fn read_settings<'a>(found: &ArgMatches<'a>) -> Option<Settings<'a>>
         resume,
         log,
         reports,
+        coverage,
     })
 }
 

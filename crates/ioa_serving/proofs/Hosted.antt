@@ -87,11 +87,11 @@ module _ (p : Prog) (x : Subject) (runs : RunsAs p x) where
   pub participants_same : (a : Act) → participants (tabled p) a ≡ participants (its_components x) a
   participants_same a = of_both p x (λ y. participants (tabled p) a ≡ participants (its_components y) a) runs refl (λ h c s m. host_participants p h c a s m)
 
-  ending_same : (acts : List Act) → (run (its_components x) acts (its_starts x)).ending ≡ (run (tabled p) acts (start_states p)).ending
+  pub ending_same : (acts : List Act) → (run (its_components x) acts (its_starts x)).ending ≡ (run (tabled p) acts (start_states p)).ending
   ending_same acts = of_both p x (λ y. (run (its_components y) acts (its_starts y)).ending ≡ (run (tabled p) acts (start_states p)).ending) runs refl
       (λ h c s m. (host_run p h c acts s m).ending)
 
-  performed_same : (acts : List Act) → (run (its_components x) acts (its_starts x)).performed ≡ (run (tabled p) acts (start_states p)).performed
+  pub performed_same : (acts : List Act) → (run (its_components x) acts (its_starts x)).performed ≡ (run (tabled p) acts (start_states p)).performed
   performed_same acts = of_both p x (λ y. (run (its_components y) acts (its_starts y)).performed ≡ (run (tabled p) acts (start_states p)).performed) runs refl
       (λ h c s m. (host_run p h c acts s m).performed)
 

@@ -3,6 +3,7 @@ pub mod Carried
 pub mod CarriedRuns
 pub mod Composed
 pub mod Counting
+pub mod Covering
 pub mod CutLaws
 pub mod Cutting
 pub mod Declared
@@ -30,6 +31,7 @@ pub mod RunLogs
 pub mod RunServed
 pub mod SeedCuts
 pub mod SeedLines
+pub mod SeedsCovered
 pub mod SeedsServed
 pub mod SeedsTold
 pub mod Sharing

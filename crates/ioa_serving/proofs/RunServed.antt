@@ -1,5 +1,5 @@
 -- From a program's run to what is written and told of the subject's run.
-use Rattle.std.proofs.Common.{◌≡◌, ◌≤◌, ◌⊎◌, ◌∙◌, ℕ, List, Option, Some, Result, Ok, Err, IfOk, Vec, All, ap, inl, inr, length, subst, sym, take}
+use Rattle.std.proofs.Common.{◌≡◌, ◌≤◌, ◌⊎◌, ◌∙◌, ℕ, List, Option, Some, Result, Ok, Err, IfOk, Vec, All, ap, ap₂, inl, inr, length, subst, sym, take}
 use Rattle.std.specs.Prelude.{IfErr}
 use Rattle.std.specs.Global.{Global}
 use Rattle.std.specs.Io.KnownBytes.{Appends, Keeps}
@@ -22,12 +22,15 @@ use Rattle.ioa_serving.specs.declared.served.Served.{Served}
 use Rattle.ioa_request.specs.declared.settings.Settings.{Settings}
 use Rattle.ioa_serving.specs.declared.status.Status.{Status}
 use Rattle.ioa_serving.specs.Alone.{CameOf, IsCutShort, IsExact, IsReady, IsRunServed, IsRunUnserved, written}
+use Rattle.ioa_serving.specs.Coverage.{behind, table_coverage}
 use Rattle.ioa_serving.specs.HasRun.{HasRun}
+use Rattle.ioa_serving.specs.Logs.{performed_in}
 use Rattle.ioa_serving.specs.Running.{RunsAs}
 use Rattle.ioa_serving.specs.Serving.{reports_of, wants_of}
 use Rattle.ioa_serving.specs.Statuses.{ending_status}
 use Rattle.ioa_serving.specs.Subjects.{Subject}
 use Rattle.ioa_serving.specs.Traces.{performed, ran_text, table_reports}
+use Rattle.ioa_serving.proofs.Covering.{coverage_same}
 use Rattle.ioa_serving.proofs.Going.{resumed_as}
 use Rattle.ioa_serving.proofs.Hosted.{inputs_same, is_run, log_of, performed_within, text_same, told_same, wants_same}
 
@@ -77,7 +80,8 @@ module _ (holds : Name → List ℕ → Type 0) (s : Settings) (r : Ran) (k : Ha
   same_text : ran_text s.log r ≡ written k.subject s.log (logged r.log)
   same_text = text_same r.program k.subject k.runs k.board r.log.entries.items r.log.end k.states k.log s.log
 
-  served_by : (before after telling : Option (List ℕ)) (done : Status) → Appends before after (ran_text s.log r) → telling ≡ table_reports r.program s.reports r.reports.items
+  served_by : (before after telling : Option (List ℕ)) (done : Status) → Appends before after (ran_text s.log r)
+      → telling ≡ behind (table_reports r.program s.reports r.reports.items) (table_coverage r.program s.coverage (performed_in (logged r.log)))
       → done ≡ ending_status (log_end r.log.end) → IsRunServed holds s before after telling (wants_of (Some r)) done
   served_by before after telling done output told status = record {
     subject = k.subject;
@@ -85,14 +89,15 @@ module _ (holds : Name → List ℕ → Type 0) (s : Settings) (r : Ran) (k : Ha
     reports = r.reports.items;
     came = came;
     output = subst (Appends before after) same_text output;
-    told = told ∙ told_same r.program k.subject k.runs s.reports r.reports.items;
+    told = told
+        ∙ ap₂ behind (told_same r.program k.subject k.runs s.reports r.reports.items) (coverage_same r.program k.subject k.runs s.coverage (performed_in (logged r.log)));
     wanting = wants_same r.program k.subject k.runs r.reports.items;
     status = status;
   }
 
   -- what comes of its text
   pub served : (before after : Option (List ℕ)) (x : Result Served Failure)
-      → IfOk x (λ d. Appends before after (ran_text s.log r) × (reports_of d ≡ table_reports r.program s.reports r.reports.items) × (d.status ≡ ending_status (log_end r.log.end)))
+      → IfOk x (λ d. Appends before after (ran_text s.log r) × (reports_of d ≡ behind (table_reports r.program s.reports r.reports.items) (table_coverage r.program s.coverage (performed_in (logged r.log)))) × (d.status ≡ ending_status (log_end r.log.end)))
       → IfOk x (λ d. IsRunServed holds s before after (reports_of d) (wants_of (Some r)) d.status)
   served before after (Ok d) h = served_by before after (reports_of d) d.status h.0 h.1 h.2
   served before after (Err e) h = tt

@@ -29,6 +29,7 @@ use Rattle.ioa_serving.specs.Logs.{answer_to, performed_in}
 use Rattle.ioa_serving.specs.Running.{Runs, RunsAs}
 use Rattle.ioa_serving.specs.Streams.{key_words}
 use Rattle.ioa_serving.specs.Subjects.{Subject, of_hosts, of_table}
+use Rattle.ioa_serving.proofs.Covering.{coverage_same}
 use Rattle.ioa_serving.proofs.Given.{key_given}
 use Rattle.ioa_serving.proofs.Going.{resumed_as}
 use Rattle.ioa_serving.proofs.Hosted.{count_same, inputs_same, is_run, log_of}
@@ -42,9 +43,10 @@ use Rattle.ioa_request.specs.declared.seeds.Seeds.{Seeds}
 use Rattle.ioa_request.specs.declared.settings.Settings.{Settings}
 use Rattle.ioa_serving.specs.declared.ready.Ready.{Ready}
 use Rattle.ioa_serving.specs.declared.status.Status.{Status}
+use Rattle.ioa_serving.specs.Coverage.{table_coverage}
 use Rattle.ioa_serving.specs.Devices.{Files}
 use Rattle.ioa_serving.specs.Placing.{log_mark}
-use Rattle.ioa_serving.specs.Seeds.{AreSeedsJudged, AreSown, IsAnswerOf, IsInspected, IsKeptIn, IsSeedJudged, IsSeedsServed, IsSeedsUnserved, IsShortest, IsUnkeepable, Judged, counts_status, monitors_of, seeds_text, with_seed}
+use Rattle.ioa_serving.specs.Seeds.{AreSeedsJudged, AreSown, IsAnswerOf, IsInspected, IsKeptIn, IsSeedJudged, IsSeedsServed, IsSeedsUnserved, IsShortest, IsUnkeepable, Judged, counts_status, monitors_of, performed_by_all, seeds_text, with_seed}
 use Rattle.ioa_serving.specs.SeedRuns.{AreSeedJudgments, HasSown, IsBegun, IsNoneRun, IsSeedJudgment, IsSeedRefused, IsSeedRun, IsSpecification, IsTold, StandsFor, broken_in, table_answer}
 use Rattle.ioa_serving.specs.Serving.{run_failure}
 use Rattle.ioa_serving.proofs.SeedsTold.{status_same}
@@ -165,10 +167,11 @@ module _ (f : Files) (s : Seeds) (w : Sown) (k : HasSown f.holds s w) (room : If
 
   module _ (old new : Option (List ℕ)) (t : Tally) (js : List Judged) (told : IsTold w s (seeds_text s.json (monitors_of s) s.invariants s.first js) old new t js) where
     -- all is told, and a log is kept, where there is one to be
-    pub served : (types : Table) (done : Status) → types ≡ w.ready.program.types → IsKeptIn f types (option_copied s.keep) (option_map logged t.shortest)
-        → done ≡ counts_status t.counts.fault t.counts.refusals.items t.counts.broken → IsSeedsServed f s old new done
+    pub served : (types : Table) (telling : Option (List ℕ)) (done : Status) → types ≡ w.ready.program.types → IsKeptIn f types (option_copied s.keep) (option_map logged t.shortest)
+        → telling ≡ table_coverage w.ready.program s.run.coverage (performed_by_all js)
+        → done ≡ counts_status t.counts.fault t.counts.refusals.items t.counts.broken → IsSeedsServed f s old new telling done
     unfolding are_sown
-    served types done same keeps status = record {
+    served types telling done same keeps told_them status = record {
       judged = js;
       count = told.count;
       sown = are_sown js told.runs;
@@ -176,6 +179,7 @@ module _ (f : Files) (s : Seeds) (w : Sown) (k : HasSown f.holds s w) (room : If
       shortest = option_map logged t.shortest;
       is_shortest = told.tallied.1;
       keeps = subst (λ (ts : Table). IsKeptIn f ts (option_copied s.keep) (option_map logged t.shortest)) (same ∙ types_as w.ready.program k.ready.subject k.ready.runs) keeps;
+      told = told_them ∙ coverage_same w.ready.program k.ready.subject k.ready.runs s.run.coverage (performed_by_all js);
       status = status ∙ status_same w s (names_count f.holds s w k) t js told.tallied;
     }
 

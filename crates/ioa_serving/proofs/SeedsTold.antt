@@ -53,6 +53,7 @@ module _ (w : Sown) (s : Seeds) (names : length w.specifications.items ≡ lengt
     count = told.count;
     runs = told.runs;
     tallied = told.tallied;
+    covered = told.covered;
     within = told.within;
     output = subst (Appends old new) (all_text w s names t js told.tallied) (Appends-trans old mid new (seed_lines s.json (monitors_of s) s.first js) counted told.output line);
   }

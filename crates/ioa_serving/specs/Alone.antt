@@ -28,10 +28,11 @@ use Rattle.ioa_request.specs.declared.settings.Settings.{Settings}
 use Rattle.ioa_request.specs.declared.settings.WordsFrom.{WordsFrom}
 use Rattle.ioa_serving.specs.declared.status.Status.{Status}
 use Rattle.ioa_serving.specs.declared.word_sources.WordSources.{WordSources}
+use Rattle.ioa_serving.specs.Coverage.{behind, told_coverage}
 use Rattle.ioa_serving.specs.Failing.{IsNoObject, IsRefusedFile}
 use Rattle.ioa_serving.specs.Headline.{IsFileOf}
 use Rattle.ioa_serving.specs.Streams.{AreStreams, key_words}
-use Rattle.ioa_serving.specs.Logs.{log_run_text}
+use Rattle.ioa_serving.specs.Logs.{log_run_text, performed_in}
 use Rattle.ioa_serving.specs.Resuming.{HasBadText, IsFrom, IsResumable, LacksFile}
 use Rattle.ioa_serving.specs.RunReports.{reports_text, wants_text}
 use Rattle.ioa_serving.specs.Statuses.{ending_status}
@@ -141,14 +142,15 @@ pub record CameOf (holds : Name → List ℕ → Type 0) (s : Settings) (x : Sub
   pub run : IsRun x before.entries script s.turns log reports
   pub exact : IsExact holds s x before script log reports
 
--- a run's text is written, and its reports, where they are asked for, and the workers to which memory was refused are left to be told
+-- a run's text is written, and its reports and how often each entry was performed, where they are asked for, and the workers to which memory was refused are left
+-- to be told
 pub record IsRunServed (holds : Name → List ℕ → Type 0) (s : Settings) (before after : Option (List ℕ)) (telling : Option (List ℕ)) (wants : List ℕ) (done : Status) : Type 0 where
   pub subject : Subject
   pub log : Logged
   pub reports : List Report
   pub came : CameOf holds s subject log reports
   pub output : Appends before after (written subject s.log log)
-  pub told : telling ≡ told_of subject s.reports reports
+  pub told : telling ≡ behind (told_of subject s.reports reports) (told_coverage subject s.coverage (performed_in log))
   pub wanting : wants ≡ wants_of_run subject reports
   pub status : done ≡ ending_status log.ending
 

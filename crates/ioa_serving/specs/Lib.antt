@@ -4,6 +4,7 @@ pub mod Carried
 pub mod Checks
 pub mod Compiling
 pub mod Counting
+pub mod Coverage
 pub mod Cuts
 pub mod Delivering
 pub mod Devices

@@ -13,6 +13,8 @@ use Rattle.ioa_compose.specs.Held.{composed_of}
 use Rattle.ioa_compose.specs.Simulates.{Simulates}
 use Rattle.ioa_compile.specs.Programs.{Prog}
 use Rattle.ioa_compile.specs.Tables.{start_states, tabled}
+use Rattle.ioa_coverage.specs.declared.coverage.Coverage.{Coverage}
+use Rattle.ioa_coverage.specs.Counts.{CountsAll}
 use Rattle.ioa_system.specs.Logs.{Logged, actions_of, log_end, log_entry, logged}
 use Rattle.ioa_system.specs.Outcomes.{ending_of}
 use Rattle.ioa_log.specs.Breaking.{broken_of}
@@ -33,7 +35,7 @@ use Rattle.ioa_serving.specs.HasRun.{HasReady}
 use Rattle.ioa_serving.specs.Headline.{IsFileOf}
 use Rattle.ioa_serving.specs.Logs.{performed_in}
 use Rattle.ioa_serving.specs.Running.{Runs}
-use Rattle.ioa_serving.specs.Seeds.{IsSeedsCut, IsShortest, Judged, broken_among, dones_among, faults_among, monitors_of, refusals_among, seeds_count}
+use Rattle.ioa_serving.specs.Seeds.{IsSeedsCut, IsShortest, Judged, broken_among, dones_among, faults_among, monitors_of, performed_by_all, refusals_among, seeds_count}
 use Rattle.ioa_serving.specs.Serving.{run_failure}
 use Rattle.ioa_serving.specs.Streams.{AreStreams}
 use Rattle.ioa_serving.specs.Subjects.{Subject, of_hosts, of_table}
@@ -115,11 +117,18 @@ pub record IsCountOf (specifications : ℕ) (c : Counts) (js : List Judged) : Ty
 abbrev pub IsTallyOf : ℕ → Tally → List Judged → Type 0
 IsTallyOf specifications t js = IsCountOf specifications t.counts js × IsShortest js (option_map logged t.shortest)
 
+-- how often each entry of the program is performed in them is counted, where it is asked for
+abbrev pub IsCovered : Prog → Bool → Option Coverage → List Judged → Type 0
+IsCovered p false o js = o ≡ None
+IsCovered p true None js = ⊥
+IsCovered p true (Some c) js = CountsAll p (performed_by_all js) c
+
 -- all runs from the first to the last number, which has 64 bits, are counted, and this text of them is written
 pub record IsTold (w : Sown) (s : Seeds) (text : List ℕ) (old new : Option (List ℕ)) (t : Tally) (js : List Judged) : Type 0 where
   pub count : length js ≡ seeds_count s
   pub runs : AreSeedJudgments w s.run.turns s.first js
   pub tallied : IsTallyOf (length w.specifications.items) t js
+  pub covered : IsCovered w.ready.program s.run.coverage t.coverage js
   pub within : length js ≤ 2 ^ 64
   pub output : Appends old new text
 

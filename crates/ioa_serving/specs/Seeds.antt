@@ -26,10 +26,11 @@ use Rattle.ioa_request.specs.declared.settings.WordsFrom.{WordsFrom}
 use Rattle.ioa_serving.specs.declared.failure.Failure.{Failure}
 use Rattle.ioa_serving.specs.declared.status.Status.{Status}
 use Rattle.ioa_serving.specs.Alone.{CameOf, IsUnrun}
+use Rattle.ioa_serving.specs.Coverage.{told_coverage}
 use Rattle.ioa_serving.specs.Devices.{Files}
 use Rattle.ioa_serving.specs.Headline.{IsFileOf}
 use Rattle.ioa_serving.specs.Json.{answer_json, broken_json}
-use Rattle.ioa_serving.specs.Logs.{answer_text, answer_to, broken_words}
+use Rattle.ioa_serving.specs.Logs.{answer_text, answer_to, broken_words, performed_in}
 use Rattle.ioa_serving.specs.Placing.{log_mark}
 use Rattle.ioa_serving.specs.Subjects.{Subject, its_types, of_hosts, of_table}
 use Rattle.ioa_serving.specs.Watching.{IsUnwatched}
@@ -245,8 +246,13 @@ pub record AreSown (f : Files) (s : Seeds) (js : List Judged) : Type 0 where
   pub runs : AreSeedsJudged f.holds s.run subject text (monitors_of s) s.invariants script s.first js
   pub yields : IfSome (option_copied s.keep) (f.yields log_mark)
 
--- each of the runs is told, in their order, and then how many ended so; and a log is kept
-pub record IsSeedsServed (f : Files) (s : Seeds) (before after : Option (List ℕ)) (done : Status) : Type 0 where
+-- what the runs perform together, one run's actions behind the other's
+abbrev pub performed_by_all : List Judged → List Act
+performed_by_all js = flat_map (λ j. performed_in j.log) js
+
+-- each of the runs is told, in their order, and then how many ended so; and a log is kept; and how often each entry is performed in all of them is left to be told,
+-- where it is asked for
+pub record IsSeedsServed (f : Files) (s : Seeds) (before after : Option (List ℕ)) (telling : Option (List ℕ)) (done : Status) : Type 0 where
   pub judged : List Judged
   pub count : length judged ≡ seeds_count s
   pub sown : AreSown f s judged
@@ -254,6 +260,7 @@ pub record IsSeedsServed (f : Files) (s : Seeds) (before after : Option (List �
   pub shortest : Option Logged
   pub is_shortest : IsShortest judged shortest
   pub keeps : IsKeptIn f (its_types sown.subject) (option_copied s.keep) shortest
+  pub told : telling ≡ told_coverage sown.subject s.run.coverage (performed_by_all judged)
   pub status : done ≡ seeds_status (monitors_of s) judged
 
 -- the lines of these runs; or, where they are all that there are, with their counts

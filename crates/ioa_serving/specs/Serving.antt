@@ -14,6 +14,7 @@ use Rattle.ioa_serving.specs.declared.store.StoreErr.{StoreErr}
 use Rattle.ioa_serving.specs.declared.status.Status.{Status}
 use Rattle.ioa_serving.specs.Checks.{IsCheck, IsCheckFailure, IsUnchecked}
 use Rattle.ioa_serving.specs.Compiling.{IsMade, IsUnmade}
+use Rattle.ioa_serving.specs.Coverage.{BeginsCoverageOf, IsCoverage, IsCoverageFailure}
 use Rattle.ioa_serving.specs.Devices.{Change, Failed, Files, Untouched, Wrote}
 use Rattle.ioa_serving.specs.Dumps.{IsDumped, IsUndumped}
 use Rattle.ioa_serving.specs.Explaining.{IsExplained, IsUnexplained}
@@ -58,7 +59,7 @@ run_failure RunErr.OutOfMemory = Failure.OutOfMemory
 -- the file may hold a text such that the list or the log was replayed, in either form, or monitored, or the log of the list's run was written, or the log again, in the
 -- composition that is asked for, the last one where none is, with or without the states in which it ends; or the log was monitored strictly; or the stream was watched by those that are asked for; or the log or the composition was drawn; or that passed the check; or its object was put
 -- in a file; or it was dumped; or a composition was run, or so it was by many seeds, and a log of theirs was kept; or the topic was explained; or the library's text was written. Reports of a run are left to be told, and the
--- workers to which memory was refused; or what the specifications of a watch counted
+-- workers to which memory was refused; or what the specifications of a watch counted; or how often each entry was performed
 abbrev pub IsServed : Files → Request → Change → Change → Option (List ℕ) → List ℕ → Status → Type 0
 IsServed f (Request.Replay file composition json) input output told wants status =
     (text : List ℕ) × f.holds file.now text
@@ -75,6 +76,10 @@ IsServed f (Request.ReplayLogStates file composition shown) input output told wa
 IsServed f (Request.ReplayInvariants file composition json) input output told wants status =
     (text : List ℕ) × f.holds file.now text
     × ((found : Found) × IfSome input.before.bytes (λ xs. IsInvariantReplayAs json text (option_copied composition) xs found output.before.bytes output.after.bytes) × (status ≡ found_status found)) × (told ≡ None)
+IsServed f (Request.ReplayCoverage file composition log json) input output told wants status =
+    (text : List ℕ) × f.holds file.now text
+    × ((end : Ending) × (lines : List ℕ) × IfSome input.before.bytes (λ xs. IsCoverage log json text (option_copied composition) xs end lines output.before.bytes output.after.bytes)
+    × (told ≡ Some lines) × (status ≡ ending_status end))
 IsServed f (Request.Log file composition) input output told wants status =
     (text : List ℕ) × f.holds file.now text
     × ((end : Ending) × IfSome input.before.bytes (λ xs. IsListLog text (option_copied composition) xs end output.before.bytes output.after.bytes) × (status ≡ ending_status end)) × (told ≡ None)
@@ -99,7 +104,7 @@ IsServed f (Request.Chart file composition selection) input output told wants st
 IsServed f (Request.Graph file composition) input output told wants status =
     ((text : List ℕ) × f.holds file.now text × IsGraphed text (option_copied composition) output.before.bytes output.after.bytes) × (status ≡ Status.Done) × (told ≡ None)
 IsServed f (Request.Run settings) input output told wants status = IsRunServed f.holds settings output.before.bytes output.after.bytes told wants status
-IsServed f (Request.Seeds seeds) input output told wants status = IsSeedsServed f seeds output.before.bytes output.after.bytes status × (told ≡ None)
+IsServed f (Request.Seeds seeds) input output told wants status = IsSeedsServed f seeds output.before.bytes output.after.bytes told status
 IsServed f (Request.Check file compositions) input output told wants status =
     ((text : List ℕ) × f.holds file.now text × IsCheck text compositions output.before.bytes output.after.bytes) × (status ≡ Status.Done) × (told ≡ None)
 IsServed f (Request.Compile file out composition) input output told wants status =
@@ -137,6 +142,10 @@ IsUnserved f (Request.ReplayInvariants file composition json) input output wants
     IsUnread (f.lacks file.now) output e
     ⊎ ((text : List ℕ) × f.holds file.now text × IsInvariantFailure text (option_copied composition) input.before.bytes (Failed input ⊎ Failed output) e
     × IsUnwritten (BeginsFindingAs json text (option_copied composition) input.before.bytes) output.before.bytes output.after.bytes e)
+IsUnserved f (Request.ReplayCoverage file composition log json) input output wants e =
+    IsUnread (f.lacks file.now) output e
+    ⊎ ((text : List ℕ) × f.holds file.now text × IsCoverageFailure log text (option_copied composition) input.before.bytes (Failed input ⊎ Failed output) e
+    × IsUnwritten (BeginsCoverageOf log json text (option_copied composition) input.before.bytes) output.before.bytes output.after.bytes e)
 IsUnserved f (Request.Log file composition) input output wants e =
     IsUnread (f.lacks file.now) output e
     ⊎ ((text : List ℕ) × f.holds file.now text × IsFailure text (option_copied composition) input.before.bytes (Failed input ⊎ Failed output) e
@@ -188,6 +197,7 @@ IsReading (Request.ReplayStates file composition shown) = Unit {0}
 IsReading (Request.ReplayLog file composition json) = Unit {0}
 IsReading (Request.ReplayLogStates file composition shown) = Unit {0}
 IsReading (Request.ReplayInvariants file composition json) = Unit {0}
+IsReading (Request.ReplayCoverage file composition log json) = Unit {0}
 IsReading (Request.Log file composition) = Unit {0}
 IsReading (Request.LogByLog file composition) = Unit {0}
 IsReading (Request.Monitor file composition) = Unit {0}
@@ -211,6 +221,7 @@ IsRunning (Request.ReplayStates file composition shown) = ⊥
 IsRunning (Request.ReplayLog file composition json) = ⊥
 IsRunning (Request.ReplayLogStates file composition shown) = ⊥
 IsRunning (Request.ReplayInvariants file composition json) = ⊥
+IsRunning (Request.ReplayCoverage file composition log json) = ⊥
 IsRunning (Request.Log file composition) = ⊥
 IsRunning (Request.LogByLog file composition) = ⊥
 IsRunning (Request.Monitor file composition) = ⊥
@@ -234,6 +245,7 @@ IsSaving (Request.ReplayStates file composition shown) = ⊥
 IsSaving (Request.ReplayLog file composition json) = ⊥
 IsSaving (Request.ReplayLogStates file composition shown) = ⊥
 IsSaving (Request.ReplayInvariants file composition json) = ⊥
+IsSaving (Request.ReplayCoverage file composition log json) = ⊥
 IsSaving (Request.Log file composition) = ⊥
 IsSaving (Request.LogByLog file composition) = ⊥
 IsSaving (Request.Monitor file composition) = ⊥

@@ -21,6 +21,7 @@ mod placing;
 
 // Lists and logs.
 mod at_hand;
+mod covered;
 mod cuts;
 mod invariant_objects;
 mod invariant_replay;
@@ -79,6 +80,7 @@ pub use at_hand::AtHand;
 pub use check::check_text;
 pub use compile::{compile_text, compose_text, is_object, object_of, program_of};
 pub use composition_graph::graph_text;
+pub use covered::replay_coverage_text;
 pub use cuts::cut_text;
 pub use dump::dump_object;
 pub use failure::Failure;

@@ -21,7 +21,7 @@ pub fn objects_of(alloc: Global, replayed: &Replayed) -> Result<Vec<u8>, OutOfMe
 }
 
 /// The text of a run that ends so as objects: one with the action of each line but the last, which tells the end, and then one with the end.
-fn rendered(alloc: Global, text: &[u8], end: End) -> Result<Vec<u8>, OutOfMemory>
+pub fn rendered(alloc: Global, text: &[u8], end: End) -> Result<Vec<u8>, OutOfMemory>
     ensures { IfOk result (λ objects. objects.items ≡ spec.rendered true text.now (ending_of end)) }
 {
     let mut objects = act_objects(alloc, text)?;

@@ -1,6 +1,6 @@
 //! `run`: from what files hold to a history, of which the trace or the log is written.
 
-ghost use Rattle.std.specs.Prelude.{◌≡◌, ◌≤◌, ◌⊎◌, ℕ, List, true, false, IfOk, IfErr, IsErrOf, OnOk, length, map, take};
+ghost use Rattle.std.specs.Prelude.{◌≡◌, ◌≤◌, ◌⊎◌, ℕ, List, Some, true, false, IfOk, IfErr, IsErrOf, OnOk, length, map, take};
 ghost use Rattle.std.specs.Io.KnownBytes.{Appends, Keeps};
 ghost use Rattle.std.specs.Option.{option_map};
 ghost use Rattle.std.specs.String.{string_bytes};
@@ -13,11 +13,14 @@ ghost use Rattle.ioa_run.specs.Alone.{IsAloneSince, IsOutcomeFrom, NoMemory, Ref
 ghost use Rattle.ioa_run.specs.Outcomes.{HaveEnded};
 ghost use Rattle.ioa_run.specs.declared.run_err.RunErr.{RunErr};
 ghost use Rattle.ioa_serving.specs.Alone.{IsCutShort, IsRunServed, IsRunUnserved, IsUnrun, count_of, streams_of};
+ghost use Rattle.ioa_serving.specs.Coverage.{behind, table_coverage};
 ghost use Rattle.ioa_serving.specs.HasRun.{HasRun};
+ghost use Rattle.ioa_serving.specs.Logs.{performed_in};
 ghost use Rattle.ioa_serving.specs.Serving.{reports_of, wants_of};
 ghost use Rattle.ioa_serving.specs.Statuses.{ending_status};
 ghost use Rattle.ioa_serving.specs.Traces.{performed, ran_text, table_reports, table_text};
 
+use crate::covered::performed_entries;
 use crate::failure::Failure;
 use crate::groups::groups_of;
 use crate::pacer::Pacer;
@@ -29,11 +32,12 @@ use crate::store::Store;
 use crate::trace::trace_text;
 use crate::word_sources::WordSources;
 use ioa_compile::Program;
+use ioa_coverage::coverage_of;
 use ioa_log::{Log, LogErr, OutputDevice, send_all, write_log};
 use ioa_node::Words;
 use ioa_request::Settings;
 use ioa_run::{OpenGate, Outcome, Report, RunErr, resume_alone, resume_threads};
-use ioa_value::Action;
+use ioa_value::{Action, OutOfMemory};
 use std::alloc::{AllocError, Global};
 use std::sync::Wait;
 use std::thread::Threads;
@@ -76,7 +80,7 @@ pub fn run_file<H: Threads + Wait + Clock + Sync, F: Store, W: OutputDevice>(
     }
 }
 
-/// Writes the text of a run, and leaves its reports to be told, where they are asked for.
+/// Writes the text of a run, and leaves its reports to be told, and how often each entry was performed, where they are asked for.
 fn serve_run<W: OutputDevice>(
     alloc: Global,
     settings: &Settings<'_>,
@@ -85,12 +89,12 @@ fn serve_run<W: OutputDevice>(
 ) -> Result<Served, Failure>
     requires { performed ran.now.log.end ≤ length ran.now.log.entries.items }
     ensures served { IfOk result (λ s. Appends (W.contents output.old) (W.contents output.new) (ran_text settings.now.log ran.now)
-        × (reports_of s ≡ table_reports ran.now.program settings.now.reports ran.now.reports.items) × (s.status ≡ ending_status (log_end ran.now.log.end))) }
+        × (reports_of s ≡ behind (table_reports ran.now.program settings.now.reports ran.now.reports.items) (table_coverage ran.now.program settings.now.coverage (performed_in (logged ran.now.log)))) × (s.status ≡ ending_status (log_end ran.now.log.end))) }
     ensures cut { IfErr result (λ e. IsCutShort (ran_text settings.now.log ran.now) (HasFailed (W.failure_count output.old) (W.failure_count output.new)) (W.contents output.old) (W.contents output.new) e) }
     ensures passed { (IsErrOf result (Failure.List LogErr.Io) → ⊥) → W.failure_count output.new ≡ W.failure_count output.old }
     ensures once { FailedOnceAtMost (W.failure_count output.old) (W.failure_count output.new) }
 {
-    let reports = told_reports(alloc, settings, ran)?;
+    let reports = told_of(alloc, settings, ran)?;
     write_run(alloc, &ran.program, &ran.log, settings.log, output)?;
     Ok(Served {
         status: status_of(ran.log.end.end()),
@@ -215,6 +219,31 @@ fn gate_of<'a, H>(
 ) -> Result<Pacer<'a, H>, AllocError> {
     let groups = groups_of(alloc, program, script)?;
     Pacer::new(rt, alloc, &groups)
+}
+
+/// The text of the reports, and behind it how often each entry was performed, where they are to be told.
+fn told_of(alloc: Global, settings: &Settings<'_>, ran: &Ran) -> Result<Option<String>, OutOfMemory>
+    ensures { IfOk result (λ told. option_map string_bytes told
+        ≡ behind (table_reports ran.now.program settings.now.reports ran.now.reports.items) (table_coverage ran.now.program settings.now.coverage (performed_in (logged ran.now.log)))) }
+{
+    let reports = told_reports(alloc, settings, ran)?;
+    if !settings.coverage {
+        return Ok(reports);
+    }
+    let coverage = coverage_of(alloc, &ran.program, performed_entries(&ran.log))?;
+    let told = put_behind(reports, coverage)?;
+    Ok(Some(told))
+}
+
+/// A text, and before it another one, if there is one.
+fn put_behind(before: Option<String>, text: String) -> Result<String, OutOfMemory>
+    ensures { IfOk result (λ all. Some (string_bytes all) ≡ behind (option_map string_bytes before) (Some (string_bytes text))) }
+{
+    let Some(mut all) = before else {
+        return Ok(text);
+    };
+    all.push_str(text.as_str())?;
+    Ok(all)
 }
 
 /// The text of the reports, where they are to be told.

@@ -1,38 +1,84 @@
-//! What is kept of the runs by many seeds that have ended: their counts, and the shortest log that is refused.
+//! What is kept of the runs by many seeds that have ended: their counts, how often each entry was performed in them, and the shortest log that is refused.
 
-ghost use Rattle.std.specs.Prelude.{◌≡◌, ◌↔◌, ◌<◌, IsTrue, IfSome, length, option_map, is_some, true};
+ghost use Rattle.std.specs.Prelude.{◌≡◌, ◌↔◌, ◌<◌, [], IsTrue, IfOk, IfSome, length, option_map, is_some, true};
 ghost use Rattle.std.specs.List.{list_any};
 ghost use Rattle.ioa_system.specs.Logs.{logged};
-ghost use Rattle.ioa_serving.specs.SeedRuns.{judged_of};
+ghost use Rattle.ioa_serving.specs.SeedRuns.{IsCovered, judged_of};
 ghost use Rattle.ioa_serving.specs.Seeds as spec;
 
+use crate::covered::performed_entries;
 use crate::judged::JudgedRun;
 use crate::seed_counts::{Counts, is_broken};
+use ioa_compile::Program;
+use ioa_coverage::Coverage;
 use ioa_system::{End, Log};
-use std::alloc::{AllocError, Global};
+use ioa_value::OutOfMemory;
+use std::alloc::Global;
 
 /// The counts of runs, and the shortest log of one that is refused: that a specification does not accept, or that breaks an invariant.
 #[derive(Drop)]
-pub struct Tally {
+pub struct Tally<'a> {
     pub counts: Counts,
+    /// How often each entry was performed in them, where it is asked for.
+    pub coverage: Option<Coverage<'a>>,
     /// The log with the fewest entries of the runs that are refused; of those that have as few the first one's.
     pub shortest: Option<Log>,
 }
 
-impl Tally {
-    ghost use Rattle.std.specs.Prelude.{◌≡◌, ◌++◌, ◌≤◌, ◌^◌, ◌∷◌, [], ℕ, List, IfOk, length};
-    ghost use Rattle.ioa_serving.specs.SeedRuns.{IsCountOf, IsTallyOf, judged_of};
-    ghost use Rattle.ioa_serving.specs.Seeds.{Judged};
+impl<'a> Tally<'a> {
+    ghost use Rattle.std.specs.Prelude.{◌≡◌, ◌+◌, ◌++◌, ◌<◌, ◌≤◌, ◌^◌, ◌∷◌, [], ℕ, Bool, List, IfOk, OnOk, length, option_map};
+    ghost use Rattle.std.specs.String.{string_bytes};
+    ghost use Rattle.ioa_system.specs.Logs.{logged};
+    ghost use Rattle.ioa_compile.specs.Programs.{Prog};
+    ghost use Rattle.ioa_serving.specs.Coverage.{table_coverage};
+    ghost use Rattle.ioa_serving.specs.Logs.{performed_in};
+    ghost use Rattle.ioa_serving.specs.SeedRuns.{IsCountOf, IsCovered, IsTallyOf, judged_of};
+    ghost use Rattle.ioa_serving.specs.Seeds.{Judged, performed_by_all};
 
-    /// That of no run, for so many specifications.
-    pub fn start(alloc: Global, specifications: usize) -> Result<Tally, AllocError>
-        ensures { IfOk result (λ t. IsTallyOf specifications t []) }
+    /// That of no run of the program, for so many specifications, and with or without counts of the program's entries.
+    pub fn start(
+        alloc: Global,
+        specifications: usize,
+        program: &'a Program,
+        covers: bool,
+    ) -> Result<Tally<'a>, OutOfMemory>
+        ensures tallied { IfOk result (λ t. IsTallyOf specifications t []) }
+        ensures covered { IfOk result (λ t. IsCovered program.now covers t.coverage []) }
     {
+        let coverage = coverage_before(alloc, program, covers)?;
         let counts = Counts::start(alloc, specifications)?;
         Ok(Tally {
             counts,
+            coverage,
             shortest: None,
         })
+    }
+
+    /// Counts how often each entry was performed in one run more, where it is asked for. It asks that all runs together performed fewer than 2^128 actions.
+    pub fn cover(&mut self, alloc: Global, judged: &JudgedRun) -> Result<(), OutOfMemory>
+        requires { (p : Prog) × (asked : Bool) × (js : List Judged) × IsCovered p asked self.old.coverage js
+            × (length (performed_by_all js) + length (performed_in (logged judged.now.log)) < 2 ^ 128) }
+        ensures covered { OnOk result ((p : Prog) (asked : Bool) (js : List Judged) → IsCovered p asked self.old.coverage js
+            → IsCovered p asked self.new.coverage (js ++ judged_of judged.now ∷ [])) }
+        ensures counts { self.new.counts ≡ self.old.counts }
+        ensures shortest { self.new.shortest ≡ self.old.shortest }
+    {
+        let Some(coverage) = &mut self.coverage else {
+            return Ok(());
+        };
+        coverage.add(alloc, performed_entries(&judged.log))
+    }
+
+    /// How often each entry was performed in all of them, where it is asked for.
+    pub fn coverage_text(&self, alloc: Global) -> Result<Option<String>, OutOfMemory>
+        ensures { IfOk result (λ told. (p : Prog) (asked : Bool) (js : List Judged) → IsCovered p asked self.now.coverage js
+            → option_map string_bytes told ≡ table_coverage p asked (performed_by_all js)) }
+    {
+        let Some(coverage) = &self.coverage else {
+            return Ok(None);
+        };
+        let text = coverage.text(alloc)?;
+        Ok(Some(text))
     }
 
     /// Counts one run more, and keeps its log where that is the shortest one by now. It asks that what was counted are no more than 2^64 runs, to which as
@@ -40,7 +86,8 @@ impl Tally {
     pub fn add(&mut self, judged: JudgedRun)
         requires counted { (k : ℕ) × (js : List Judged) × IsCountOf k self.old.counts js × (length js ≤ 2 ^ 64) }
         requires answered { length judged.answers.items ≤ length self.old.counts.refusals.items }
-        ensures { (k : ℕ) (js : List Judged) → IsTallyOf k self.old js → IsTallyOf k self.new (js ++ judged_of judged ∷ []) }
+        ensures tallied { (k : ℕ) (js : List Judged) → IsTallyOf k self.old js → IsTallyOf k self.new (js ++ judged_of judged ∷ []) }
+        ensures coverage { self.new.coverage ≡ self.old.coverage }
     {
         self.counts.add(&judged);
         if !takes_its_place(&judged, &self.shortest) {
@@ -48,6 +95,21 @@ impl Tally {
         }
         self.shortest = Some(judged.log);
     }
+}
+
+/// The counts of the program's entries before any run, where they are asked for.
+fn coverage_before<'a>(
+    alloc: Global,
+    program: &'a Program,
+    covers: bool,
+) -> Result<Option<Coverage<'a>>, OutOfMemory>
+    ensures { IfOk result (λ coverage. IsCovered program.now covers coverage []) }
+{
+    if !covers {
+        return Ok(None);
+    }
+    let coverage = Coverage::start(alloc, program)?;
+    Ok(Some(coverage))
 }
 
 /// Whether a run is refused, and its log is shorter than the shortest one before, if there is one.

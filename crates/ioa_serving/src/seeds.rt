@@ -1,6 +1,7 @@
 //! `run --seeds`: runs by many seeds of one program, which is read and compiled once, each told on a line.
 
-ghost use Rattle.std.specs.Prelude.{◌≡◌, ◌≢◌, ◌⊎◌, ◌↔◌, [], ℕ, List, None, Err, Ok, IsTrue, IfOk, IfErr, IsErrOf, OnErr, OnOk, is_some, length, map, take, true};
+ghost use Rattle.std.specs.Prelude.{◌≡◌, ◌≢◌, ◌⊎◌, ◌↔◌, [], ℕ, List, None, Err, Ok, IsTrue, IfOk, IfErr, IsErrOf, OnErr, OnOk, is_some, length, map, option_map, take, true};
+ghost use Rattle.std.specs.String.{string_bytes};
 ghost use Rattle.std.specs.Io.KnownBytes.{Appends, Keeps};
 ghost use Rattle.ioa_value.specs.Actions.{act_of};
 ghost use Rattle.ioa_system.specs.Logs.{logged};
@@ -9,9 +10,10 @@ ghost use Rattle.ioa_log.specs.Failing.{FailedOnceAtMost, HasFailed};
 ghost use Rattle.ioa_request.specs.Pasted.{texts};
 ghost use Rattle.ioa_run.specs.Alone.{NoMemory, RefusesResumed};
 ghost use Rattle.ioa_run.specs.declared.run_err.RunErr.{RunErr};
-ghost use Rattle.ioa_serving.specs.SeedRuns.{IsBegun, IsNoneRun, IsSeedJudgment, IsSeedRefused, IsSeedRun, IsTallyOf, IsTold, judged_of};
+ghost use Rattle.ioa_serving.specs.Coverage.{table_coverage};
+ghost use Rattle.ioa_serving.specs.SeedRuns.{IsBegun, IsCovered, IsNoneRun, IsSeedJudgment, IsSeedRefused, IsSeedRun, IsTallyOf, IsTold, judged_of};
 ghost use Rattle.ioa_serving.specs.Devices.{files};
-ghost use Rattle.ioa_serving.specs.Seeds.{IsSeedsServed, IsSeedsUnserved, Judged, monitors_of, seed_line, seed_lines, seeds_text};
+ghost use Rattle.ioa_serving.specs.Seeds.{IsSeedsServed, IsSeedsUnserved, Judged, monitors_of, performed_by_all, seed_line, seed_lines, seeds_text};
 ghost use Rattle.ioa_serving.specs.Serving.{reports_of};
 ghost use Rattle.ioa_serving.specs.declared.failure.Failure.{Failure};
 
@@ -22,7 +24,7 @@ use crate::ready::Ready;
 use crate::seed::seeded;
 use crate::seed_lines::{counts_text, seed_text};
 use crate::seed_tally::Tally;
-use crate::served::{Served, silent};
+use crate::served::Served;
 use crate::sown::{Sown, load_sown};
 use crate::store::Store;
 use ioa_log::{Log, LogErr, OutputDevice, send_all};
@@ -49,8 +51,7 @@ pub fn run_seeds_file<F: Store, W: OutputDevice>(
     store: &mut F,
     output: &mut W,
 ) -> Result<Served, Failure>
-    ensures served { IfOk result (λ s. IsSeedsServed (files F.holds F.lacks F.begins F.bars F.saves store.old store.new) seeds.now (W.contents output.old) (W.contents output.new) s.status
-        × (reports_of s ≡ None)) }
+    ensures served { IfOk result (λ s. IsSeedsServed (files F.holds F.lacks F.begins F.bars F.saves store.old store.new) seeds.now (W.contents output.old) (W.contents output.new) (reports_of s) s.status) }
     ensures refused { IfErr result (λ e. IsSeedsUnserved (files F.holds F.lacks F.begins F.bars F.saves store.old store.new) seeds.now
         (HasFailed (W.failure_count output.old) (W.failure_count output.new)) (W.contents output.old) (W.contents output.new) e) }
     ensures kept { (is_some seeds.now.keep ≡ true → ⊥) → store.new ≡ store.old }
@@ -59,27 +60,39 @@ pub fn run_seeds_file<F: Store, W: OutputDevice>(
 {
     let sown = load_sown(alloc, seeds, store)?;
     ask_keep(alloc, seeds.keep, store)?;
-    let tally = tell_all(alloc, seeds, &sown, output)?;
+    let told = tell_all(alloc, seeds, &sown, output)?;
     let types = sown.ready.program.types();
-    keep(alloc, types, seeds.keep, &tally.shortest, store)?;
-    Ok(silent(tally.counts.status()))
+    keep(alloc, types, seeds.keep, &told.tally.shortest, store)?;
+    Ok(Served {
+        status: told.tally.counts.status(),
+        reports: told.coverage,
+    })
+}
+
+/// Runs that are told, and how often each entry was performed in them, where that is to be told.
+#[derive(Drop)]
+struct Told<'a> {
+    tally: Tally<'a>,
+    coverage: Option<String>,
 }
 
 /// Runs the program by each seed, writes a line for each, and then one with their counts.
-fn tell_all<W: OutputDevice>(
+fn tell_all<'a, W: OutputDevice>(
     alloc: Global,
     seeds: &Seeds<'_>,
-    sown: &Sown,
+    sown: &'a Sown,
     output: &mut W,
-) -> Result<Tally, Failure>
+) -> Result<Told<'a>, Failure>
     requires { length sown.now.specifications.items ≡ length seeds.now.monitors.now }
-    ensures told { IfOk result (λ t. (js : List Judged) × IsTold sown.now seeds.now (seeds_text seeds.now.json (monitors_of seeds.now) seeds.now.invariants seeds.now.first js) (W.contents output.old) (W.contents output.new) t js) }
+    ensures told { IfOk result (λ t. (js : List Judged) × IsTold sown.now seeds.now (seeds_text seeds.now.json (monitors_of seeds.now) seeds.now.invariants seeds.now.first js) (W.contents output.old) (W.contents output.new) t.tally js
+        × (option_map string_bytes t.coverage ≡ table_coverage sown.now.ready.program seeds.now.run.coverage (performed_by_all js))) }
     ensures refused { IfErr result (λ e. IsNoneRun sown.now seeds.now.run.turns (W.contents output.old) (W.contents output.new) e
         ⊎ IsBegun sown.now seeds.now (HasFailed (W.failure_count output.old) (W.failure_count output.new)) (W.contents output.old) (W.contents output.new) e) }
     ensures passed { (IsErrOf result (Failure.List LogErr.Io) → ⊥) → W.failure_count output.new ≡ W.failure_count output.old }
     ensures once { FailedOnceAtMost (W.failure_count output.old) (W.failure_count output.new) }
 {
     let tally = tell_runs(alloc, seeds, sown, output)?;
+    let coverage = tally.coverage_text(alloc)?;
     let line = counts_text(
         alloc,
         seeds.json,
@@ -88,16 +101,16 @@ fn tell_all<W: OutputDevice>(
         &tally.counts,
     )?;
     send_all(output, line.as_bytes())?;
-    Ok(tally)
+    Ok(Told { tally, coverage })
 }
 
 /// Runs the program by each seed, and writes a line for each as soon as it has ended.
-fn tell_runs<W: OutputDevice>(
+fn tell_runs<'a, W: OutputDevice>(
     alloc: Global,
     seeds: &Seeds<'_>,
-    sown: &Sown,
+    sown: &'a Sown,
     output: &mut W,
-) -> Result<Tally, Failure>
+) -> Result<Tally<'a>, Failure>
     requires { length sown.now.specifications.items ≡ length seeds.now.monitors.now }
     ensures told { IfOk result (λ t. (js : List Judged) × IsTold sown.now seeds.now (seed_lines seeds.now.json (monitors_of seeds.now) seeds.now.first js) (W.contents output.old) (W.contents output.new) t js) }
     ensures refused { IfErr result (λ e. IsNoneRun sown.now seeds.now.run.turns (W.contents output.old) (W.contents output.new) e
@@ -105,21 +118,24 @@ fn tell_runs<W: OutputDevice>(
     ensures passed { (IsErrOf result (Failure.List LogErr.Io) → ⊥) → W.failure_count output.new ≡ W.failure_count output.old }
     ensures once { FailedOnceAtMost (W.failure_count output.old) (W.failure_count output.new) }
 {
-    let mut tally = tally_before(alloc, sown)?;
+    let mut tally = tally_before(alloc, sown, seeds.run.coverage)?;
     for number in seeds.first..=seeds.last {
         let judged = judge_seed(alloc, sown, seeds.run.turns, number)?;
         tell_run(alloc, seeds.json, seeds.monitors, number, &judged, output)?;
+        tally.cover(alloc, &judged)?;
         tally.add(judged);
     }
     Ok(tally)
 }
 
 /// What is kept before the first run.
-fn tally_before(alloc: Global, sown: &Sown) -> Result<Tally, RunErr>
+fn tally_before(alloc: Global, sown: &Sown, covers: bool) -> Result<Tally<'_>, RunErr>
     ensures counted { IfOk result (λ t. IsTallyOf (length sown.now.specifications.items) t []) }
+    ensures covered { IfOk result (λ t. IsCovered sown.now.ready.program covers t.coverage []) }
     ensures memory { IfErr result (λ e. e ≡ RunErr.OutOfMemory) }
 {
-    match Tally::start(alloc, sown.specifications.len()) {
+    let specifications = sown.specifications.len();
+    match Tally::start(alloc, specifications, &sown.ready.program, covers) {
         Ok(tally) => Ok(tally),
         Err(_) => Err(RunErr::OutOfMemory),
     }

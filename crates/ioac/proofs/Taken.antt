@@ -31,6 +31,7 @@ cut_reads (Some found) cut (Request.ReplayStates file composition shown) e h = t
 cut_reads (Some found) cut (Request.ReplayLog file composition json) e h = tt
 cut_reads (Some found) cut (Request.ReplayLogStates file composition shown) e h = tt
 cut_reads (Some found) cut (Request.ReplayInvariants file composition json) e h = tt
+cut_reads (Some found) cut (Request.ReplayCoverage file composition log json) e h = tt
 cut_reads (Some found) cut (Request.Log file composition) e h = tt
 cut_reads (Some found) cut (Request.LogByLog file composition) e h = tt
 cut_reads (Some found) cut (Request.Monitor file composition) e h = tt

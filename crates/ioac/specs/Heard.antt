@@ -62,12 +62,17 @@ abbrev pub begins_entry : List ℕ → Bool
 begins_entry [] = false
 begins_entry (b ∷ bs) = b == 123
 
+abbrev pub option_by : Bool → List ℕ
+option_by true = []
+option_by false = codes ": with `--log` a log is read"
+
 abbrev pub log_option : Request → List ℕ
 log_option (Request.Replay file composition json) = codes ": with `--log` a log is read"
 log_option (Request.ReplayStates file composition shown) = codes ": with `--log` a log is read"
 log_option (Request.ReplayLog file composition json) = []
 log_option (Request.ReplayLogStates file composition shown) = []
 log_option (Request.ReplayInvariants file composition json) = []
+log_option (Request.ReplayCoverage file composition log json) = option_by log
 log_option (Request.Log file composition) = codes ": with `--log` a log is read"
 log_option (Request.LogByLog file composition) = []
 log_option (Request.Monitor file composition) = []

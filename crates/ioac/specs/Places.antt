@@ -1,5 +1,5 @@
 -- Which files a request names beside its source, and where what a failure tells of stands.
-use Rattle.std.specs.Prelude.{ℕ, Bool, not, ◌+◌, ◌-◌, ◌^◌, min, List, [], ◌∷◌, Option, Some, None, codes}
+use Rattle.std.specs.Prelude.{ℕ, Bool, true, false, not, ◌+◌, ◌-◌, ◌^◌, min, List, [], ◌∷◌, Option, Some, None, codes}
 use Rattle.std.specs.Option.{option_and_then, option_copied, option_map}
 use Rattle.std.specs.Str.{bytes_eq}
 use Rattle.ioa_value.specs.Actions.{Name}
@@ -23,6 +23,7 @@ settings_of (Request.ReplayStates file composition shown) = None
 settings_of (Request.ReplayLog file composition json) = None
 settings_of (Request.ReplayLogStates file composition shown) = None
 settings_of (Request.ReplayInvariants file composition json) = None
+settings_of (Request.ReplayCoverage file composition log json) = None
 settings_of (Request.Log file composition) = None
 settings_of (Request.LogByLog file composition) = None
 settings_of (Request.Monitor file composition) = None
@@ -69,6 +70,7 @@ out_of (Request.ReplayStates file composition shown) = None
 out_of (Request.ReplayLog file composition json) = None
 out_of (Request.ReplayLogStates file composition shown) = None
 out_of (Request.ReplayInvariants file composition json) = None
+out_of (Request.ReplayCoverage file composition log json) = None
 out_of (Request.Log file composition) = None
 out_of (Request.LogByLog file composition) = None
 out_of (Request.Monitor file composition) = None
@@ -82,6 +84,11 @@ out_of (Request.Dump file) = None
 out_of (Request.Explain topic) = None
 out_of Request.Library = None
 
+-- a log, or a list
+abbrev pub name_by : Bool → Name
+name_by true = codes "log"
+name_by false = codes "list"
+
 -- what stands on standard input
 abbrev pub input_name : Request → Name
 input_name (Request.Replay file composition json) = codes "list"
@@ -90,6 +97,7 @@ input_name (Request.Log file composition) = codes "list"
 input_name (Request.ReplayLog file composition json) = codes "log"
 input_name (Request.ReplayLogStates file composition shown) = codes "log"
 input_name (Request.ReplayInvariants file composition json) = codes "log"
+input_name (Request.ReplayCoverage file composition log json) = name_by log
 input_name (Request.LogByLog file composition) = codes "log"
 input_name (Request.Monitor file composition) = codes "log"
 input_name (Request.MonitorJson file composition) = codes "log"

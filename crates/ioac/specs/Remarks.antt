@@ -1,5 +1,5 @@
 -- What is told, where an explanation is asked for, of a request that was served: by what the files may hold now, and by what was heard of standard input.
-use Rattle.std.specs.Prelude.{◌≡◌, ◌≢◌, ◌⊎◌, ◌++◌, ℕ, true, false, List, [], Option, Some, None, codes, slice_get}
+use Rattle.std.specs.Prelude.{◌≡◌, ◌≢◌, ◌⊎◌, ◌++◌, ℕ, Bool, true, false, List, [], Option, Some, None, codes, slice_get}
 use Rattle.std.specs.Borrow.{Bor}
 use Rattle.std.specs.Fmt.{decimal}
 use Rattle.std.specs.Option.{option_copied, option_map, option_map_or}
@@ -52,6 +52,7 @@ source_of (Request.ReplayStates file composition shown) = Some (file.now, option
 source_of (Request.ReplayLog file composition json) = Some (file.now, option_copied composition)
 source_of (Request.ReplayLogStates file composition shown) = Some (file.now, option_copied composition)
 source_of (Request.ReplayInvariants file composition json) = Some (file.now, option_copied composition)
+source_of (Request.ReplayCoverage file composition log json) = Some (file.now, option_copied composition)
 source_of (Request.Log file composition) = Some (file.now, option_copied composition)
 source_of (Request.LogByLog file composition) = Some (file.now, option_copied composition)
 source_of (Request.Monitor file composition) = Some (file.now, option_copied composition)
@@ -131,6 +132,11 @@ reached_text h acts = next_lines h.types h.hosts (run (hosts_of h) acts (host_st
 abbrev pub TellsReached : Told → List Act → List ℕ → List ℕ → Type 0
 TellsReached t acts before after = OfHosts t (λ h old new. ShareTypes h → new ≡ old ++ reached_text h acts) before after
 
+-- of a log, or of a list
+abbrev pub TellsEndBy : Bool → Told → List ℕ → List ℕ → Type 0
+TellsEndBy true t before after = TellsLogEnd t before after
+TellsEndBy false t before after = TellsListEnd t before after
+
 -- of a run that is done which of their actions the components never performed, and what they may perform next; behind that stand words for people
 abbrev pub TellsDone : Told → Logged → List ℕ → List ℕ → Type 0
 TellsDone t log before after =
@@ -156,6 +162,7 @@ Explains (Request.ReplayLogStates file composition shown) (Ended.Served status) 
 Explains (Request.LogByLog file composition) (Ended.Served status) t before after = TellsLogEnd t before after
 Explains (Request.Chart file composition selection) (Ended.Served status) t before after = TellsLogEnd t before after
 Explains (Request.ReplayInvariants file composition json) (Ended.Served status) t before after = OfLog t (λ log. OfHosts t (λ h. TellsInspected t h log)) before after
+Explains (Request.ReplayCoverage file composition log json) (Ended.Served status) t before after = TellsEndBy log t before after
 Explains (Request.Monitor file composition) (Ended.Served status) t before after = OfLog t (λ log. TellsCounted t (performed_in log)) before after
 Explains (Request.MonitorJson file composition) (Ended.Served status) t before after = OfLog t (λ log. TellsCounted t (performed_in log)) before after
 Explains (Request.StrictMonitor file composition json) (Ended.Served status) t before after = OfLog t (λ log. TellsCounted t (performed_in log)) before after
@@ -199,6 +206,7 @@ TellsOfObject (Request.LogByLog file composition) object name input before after
 TellsOfObject (Request.ReplayLog file composition json) object name input before after = after ≡ before
 TellsOfObject (Request.ReplayLogStates file composition shown) object name input before after = after ≡ before
 TellsOfObject (Request.ReplayInvariants file composition json) object name input before after = after ≡ before
+TellsOfObject (Request.ReplayCoverage file composition log json) object name input before after = after ≡ before
 TellsOfObject (Request.Chart file composition selection) object name input before after = after ≡ before
 TellsOfObject (Request.Run settings) object name input before after = after ≡ before
 TellsOfObject (Request.Seeds seeds) object name input before after = after ≡ before
@@ -244,6 +252,7 @@ IsChecking (Request.ReplayStates file composition shown) = ⊥
 IsChecking (Request.ReplayLog file composition json) = ⊥
 IsChecking (Request.ReplayLogStates file composition shown) = ⊥
 IsChecking (Request.ReplayInvariants file composition json) = ⊥
+IsChecking (Request.ReplayCoverage file composition log json) = ⊥
 IsChecking (Request.Log file composition) = ⊥
 IsChecking (Request.LogByLog file composition) = ⊥
 IsChecking (Request.Monitor file composition) = ⊥

@@ -63,6 +63,10 @@ missing_log_text =
 abbrev pub two_questions_text : List ℕ
 two_questions_text = codes "error: the argument '--invariants' cannot be used with '--states' or '--enabled'" ++ try_help
 
+-- of how often entries are performed, which is asked for together with invariants or what is told of states
+abbrev pub mixed_coverage_text : List ℕ
+mixed_coverage_text = codes "error: the argument '--coverage' cannot be used with '--invariants', '--states' or '--enabled'" ++ try_help
+
 -- of objects that are asked for together with what is told of states
 abbrev pub mixed_json_text : List ℕ
 mixed_json_text = codes "error: the argument '--json' cannot be used with '--states' or '--enabled'" ++ try_help
@@ -152,9 +156,15 @@ bad_bounds_text (Some word) to =
 abbrev pub asks_both : List Row → Bool
 asks_both rows = is_set (codes "invariants") rows && (is_set (codes "states") rows || is_set (codes "enabled") rows)
 
--- of a replay that is asked for objects and to tell of states, or for invariants and for that, or of a list for invariants
+-- it is asked how often entries are performed, and for invariants or to tell of states
+abbrev pub mixes_coverage : List Row → Bool
+mixes_coverage rows = is_set (codes "coverage") rows && (is_set (codes "invariants") rows || is_set (codes "states") rows || is_set (codes "enabled") rows)
+
+-- of a replay that is asked for objects and to tell of states, or how often entries are performed and for one of these or for invariants, or for invariants and to
+-- tell of states, or of a list for invariants
 abbrev pub bad_replay_text : List Row → List ℕ
-bad_replay_text rows = if mixes_json rows then mixed_json_text else if asks_both rows then two_questions_text else missing_log_text
+bad_replay_text rows =
+    if mixes_json rows then mixed_json_text else if mixes_coverage rows then mixed_coverage_text else if asks_both rows then two_questions_text else missing_log_text
 
 -- of what there is no explanation of; or without a word, of a replay
 abbrev pub bad_request_text : Option Text → List Row → List ℕ

@@ -17,10 +17,10 @@ use ioa_request::{Request, Selection, Shown, Topic};
 use ioa_serving::explain::explain;
 use ioa_serving::{
     Failure, Finding, Ran, Served, Status, Store, chart_log_text, check_text, compile_file,
-    dump_object, graph_text, log_list_text, log_log_text, monitor_text, replay_in_form,
-    replay_invariants_in_form, replay_log_in_form, replay_log_states_text, replay_states_text,
-    run_file, run_seeds_file, silent, status_of, status_of_verdict, strict_monitor_text,
-    watch_text, write_library,
+    dump_object, graph_text, log_list_text, log_log_text, monitor_text, replay_coverage_text,
+    replay_in_form, replay_invariants_in_form, replay_log_in_form, replay_log_states_text,
+    replay_states_text, run_file, run_seeds_file, silent, status_of, status_of_verdict,
+    strict_monitor_text, watch_text, write_library,
 };
 use ioa_system::End;
 use std::alloc::Global;
@@ -90,6 +90,15 @@ pub(crate) fn serve<H: Threads + Wait + Clock + Sync, F: Store, R: InputDevice, 
             json,
         } => (
             replay_invariants(alloc, file, *composition, *json, store, input, output),
+            None,
+        ),
+        Request::ReplayCoverage {
+            file,
+            composition,
+            log,
+            json,
+        } => (
+            replay_coverage(alloc, file, *composition, *log, *json, store, input, output),
             None,
         ),
         Request::Log { file, composition } => (
@@ -262,6 +271,38 @@ fn replay_invariants<F: Store, R: InputDevice, W: OutputDevice>(
     let bytes = text.as_slice();
     let finding = replay_invariants_in_form(alloc, bytes, composition, json, input, output)?;
     Ok(silent(status_of_finding(finding)))
+}
+
+/// Replays the list, or the log, on standard input, tells objects or text, and leaves it to be told how often each entry was performed.
+fn replay_coverage<F: Store, R: InputDevice, W: OutputDevice>(
+    alloc: Global,
+    file: &str,
+    composition: Option<&str>,
+    log: bool,
+    json: bool,
+    store: &F,
+    input: &mut R,
+    output: &mut W,
+) -> Result<Served, Failure>
+    ensures served { IfOk result (λ s. Serves (read_only F.holds F.lacks store.now) (requests.ReplayCoverage file.entry composition.entry log json) (change R.remaining R.failure_count input.old input.new) (change W.contents W.failure_count output.old output.new) s) }
+    ensures refused { IfErr result (λ e. Fails (read_only F.holds F.lacks store.now) (requests.ReplayCoverage file.entry composition.entry log json) (change R.remaining R.failure_count input.old input.new) (change W.contents W.failure_count output.old output.new) e) }
+    ensures passed { (IsErrOf result (Failure.List LogErr.Io) → ⊥) → (R.failure_count input.new ≡ R.failure_count input.old) × (W.failure_count output.new ≡ W.failure_count output.old) }
+    ensures once { FailedOnceAtMost (R.failure_count input.old) (R.failure_count input.new) × FailedOnceAtMost (W.failure_count output.old) (W.failure_count output.new) }
+{
+    let text = store.load(alloc, file)?;
+    let (told, end) = replay_coverage_text(
+        alloc,
+        text.as_slice(),
+        composition,
+        log,
+        json,
+        input,
+        output,
+    )?;
+    Ok(Served {
+        status: status_of(end),
+        reports: Some(told),
+    })
 }
 
 /// Writes the log of the run of the list on standard input.

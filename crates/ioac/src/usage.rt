@@ -77,7 +77,7 @@ fn shown<W: OutputDevice, E: OutputDevice>(
 }
 
 /// Tells of a command line that has no fault and asks for nothing, and answers the exit status. It asks for what there is no explanation of, for the
-/// invariants of a list, for invariants and what is told of states, for objects and that, for a run whose settings are none, for a chart within bounds that are none, or for
+/// invariants of a list, for two of invariants, what is told of states and coverage, for objects and what is told of states, for a run whose settings are none, for a chart within bounds that are none, or for
 /// a list or a log up to a bound that is none.
 pub fn told_unasked<E: OutputDevice>(
     alloc: Global,
@@ -223,6 +223,17 @@ fn seeds_option(found: &ArgMatches<'_>) -> &'static str
     }
 }
 
+/// Whether a replay is asked how often entries are performed, and for invariants or to tell of states.
+fn mixes_coverage(found: &ArgMatches<'_>) -> bool
+    ensures { result ≡ telling.mixes_coverage (rows_of (found_of found.now)) }
+{
+    let coverage = is_set(found, "coverage");
+    let invariants = is_set(found, "invariants");
+    let states = is_set(found, "states");
+    let enabled = is_set(found, "enabled");
+    coverage && (invariants || states || enabled)
+}
+
 /// Whether a replay is asked for invariants, and to tell of states.
 fn asks_both(found: &ArgMatches<'_>) -> bool
     ensures { result ≡ telling.asks_both (rows_of (found_of found.now)) }
@@ -302,6 +313,9 @@ fn bad_replay_text(alloc: Global, found: &ArgMatches<'_>) -> Result<String, Allo
     if mixes_json(found) {
         return mixed_json_text(alloc);
     }
+    if mixes_coverage(found) {
+        return mixed_coverage_text(alloc);
+    }
     if asks_both(found) {
         return two_questions_text(alloc);
     }
@@ -363,6 +377,16 @@ fn two_questions_text(alloc: Global) -> Result<String, AllocError>
     String::from_str(
         alloc,
         "error: the argument '--invariants' cannot be used with '--states' or '--enabled'\n\nFor more information, try '--help'.\n",
+    )
+}
+
+/// That how often entries are performed is not asked for together with invariants or what is told of states, in the same manner.
+fn mixed_coverage_text(alloc: Global) -> Result<String, AllocError>
+    ensures { IfOk result (λ text. string_bytes text ≡ telling.mixed_coverage_text) }
+{
+    String::from_str(
+        alloc,
+        "error: the argument '--coverage' cannot be used with '--invariants', '--states' or '--enabled'\n\nFor more information, try '--help'.\n",
     )
 }
 

@@ -6,6 +6,7 @@ mod choices;
 mod commands;
 mod composed;
 mod constants;
+mod coverage;
 mod crashes;
 mod cuts;
 mod declared;

@@ -9,7 +9,7 @@ ghost use Rattle.ioa_log.specs.LogTexts.{ReadsLog};
 ghost use Rattle.ioa_account.specs.Remarks.{TellsDifference, TellsInspected};
 ghost use Rattle.ioa_serving.specs.Logs.{performed_in};
 ghost use Rattle.ioac.specs.Remarks as spec;
-ghost use Rattle.ioac.specs.Remarks.{IsComposed, IsLoaded, IsNoLog, OfBegun, OfHosts, OfLog, Explains, TellsCounted, TellsDone, TellsEnded, TellsListEnd, TellsListed, TellsLogEnd, TellsRunEnd, TellsSource};
+ghost use Rattle.ioac.specs.Remarks.{IsComposed, IsLoaded, IsNoLog, OfBegun, OfHosts, OfLog, Explains, TellsCounted, TellsDone, TellsEndBy, TellsEnded, TellsListEnd, TellsListed, TellsLogEnd, TellsRunEnd, TellsSource};
 
 use crate::remarks::hints::taken_text;
 use crate::remarks::idle::put_idle;
@@ -149,6 +149,11 @@ fn put_served(
         Request::LogByLog { .. } => put_end_of_log(alloc, text, told),
         Request::Chart { .. } => put_end_of_log(alloc, text, told),
         Request::ReplayInvariants { .. } => put_invariants(alloc, text, told),
+        Request::ReplayCoverage {
+            composition,
+            log,
+            ..
+        } => put_end_by(alloc, text, told, *composition, *log),
         Request::Monitor { .. } => put_monitor(alloc, text, told),
         Request::MonitorJson { .. } => put_monitor(alloc, text, told),
         Request::StrictMonitor { .. } => put_monitor(alloc, text, told),
@@ -163,6 +168,23 @@ fn put_served(
         Request::Dump { .. } => Ok(()),
         Request::Explain { .. } => Ok(()),
         Request::Library => Ok(()),
+    }
+}
+
+/// Puts the action that was not performed, and why: of a log, or of a list.
+fn put_end_by(
+    alloc: Global,
+    text: &mut String,
+    told: &Told<'_>,
+    name: Option<&str>,
+    log: bool,
+) -> Result<(), OutOfMemory>
+    ensures { OnOk result (TellsEndBy log told.now (string_bytes text.old) (string_bytes text.new)) }
+{
+    if log {
+        put_end_of_log(alloc, text, told)
+    } else {
+        put_end_of_list(alloc, text, told, name)
     }
 }
 

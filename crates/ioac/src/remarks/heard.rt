@@ -219,6 +219,7 @@ fn log_option(asked: &Request<'_>) -> &'static str
         Request::Replay { .. } | Request::ReplayStates { .. } | Request::Log { .. } => {
             ": with `--log` a log is read"
         }
+        Request::ReplayCoverage { log, .. } => option_by(*log),
         Request::ReplayLog { .. }
         | Request::ReplayLogStates { .. }
         | Request::ReplayInvariants { .. }
@@ -236,6 +237,17 @@ fn log_option(asked: &Request<'_>) -> &'static str
         | Request::Dump { .. }
         | Request::Explain { .. }
         | Request::Library => "",
+    }
+}
+
+/// The same of a replay that reads a log, or a list.
+fn option_by(log: bool) -> &'static str
+    ensures { result.now ≡ spec.option_by log }
+{
+    if log {
+        ""
+    } else {
+        ": with `--log` a log is read"
     }
 }
 

@@ -60,6 +60,7 @@ fn put_served(
         Request::ReplayLog { .. } => Ok(()),
         Request::ReplayLogStates { .. } => Ok(()),
         Request::ReplayInvariants { .. } => Ok(()),
+        Request::ReplayCoverage { .. } => Ok(()),
         Request::Chart { .. } => Ok(()),
         Request::Run(_) => Ok(()),
         Request::Seeds(_) => Ok(()),

@@ -141,6 +141,11 @@ pub fn source_of<'a>(asked: &Request<'a>) -> Option<(&'a str, Option<&'a str>)>
             composition,
             ..
         } => Some((*file, *composition)),
+        Request::ReplayCoverage {
+            file,
+            composition,
+            ..
+        } => Some((*file, *composition)),
         Request::Log { file, composition } => Some((*file, *composition)),
         Request::LogByLog { file, composition } => Some((*file, *composition)),
         Request::Monitor { file, composition } => Some((*file, *composition)),
@@ -209,6 +214,7 @@ fn settings_of<'b, 'a>(asked: &'b Request<'a>) -> Option<&'b Settings<'a>>
         Request::ReplayLog { .. } => None,
         Request::ReplayLogStates { .. } => None,
         Request::ReplayInvariants { .. } => None,
+        Request::ReplayCoverage { .. } => None,
         Request::Log { .. } => None,
         Request::LogByLog { .. } => None,
         Request::Monitor { .. } => None,
@@ -277,6 +283,7 @@ pub fn out_of<'a>(asked: &Request<'a>) -> Option<&'a str>
         Request::ReplayLog { .. } => None,
         Request::ReplayLogStates { .. } => None,
         Request::ReplayInvariants { .. } => None,
+        Request::ReplayCoverage { .. } => None,
         Request::Log { .. } => None,
         Request::LogByLog { .. } => None,
         Request::Monitor { .. } => None,
@@ -303,6 +310,7 @@ pub fn input_name(asked: &Request<'_>) -> &'static str
         Request::ReplayLog { .. } => "log",
         Request::ReplayLogStates { .. } => "log",
         Request::ReplayInvariants { .. } => "log",
+        Request::ReplayCoverage { log, .. } => name_by(*log),
         Request::LogByLog { .. } => "log",
         Request::Monitor { .. } => "log",
         Request::MonitorJson { .. } => "log",
@@ -318,4 +326,11 @@ pub fn input_name(asked: &Request<'_>) -> &'static str
         Request::Explain { .. } => "log",
         Request::Library => "log",
     }
+}
+
+/// The name of a log, or of a list.
+fn name_by(log: bool) -> &'static str
+    ensures { result.now ≡ places.name_by log }
+{
+    if log { "log" } else { "list" }
 }

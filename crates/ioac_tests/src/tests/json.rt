@@ -37,7 +37,7 @@ replay f --enabled --json | tick(5) |  | error: the argument '--json' cannot be 
 replay f --json --invariants | tick(5) |  | error: the following required arguments were not provided:^  --log^^Usage: ioac replay --log --invariants <FILE>^^For more information, try '--help'.^ | 2
 replay f --log --json --states --invariants | {"end":"done after 0"}^ |  | error: the argument '--json' cannot be used with '--states' or '--enabled'^^For more information, try '--help'.^ | 2
 replay f --json --states --until x | tick(5) |  | error: invalid value 'x' for '--until <N>'^  [wanted: a whole number of 64 bits]^^For more information, try '--help'.^ | 2
-replay f --json --json | tick(5) |  | error: the argument '--json' cannot be used multiple times^^Usage: ioac replay [--comp <NAME>] [--log [--invariants]] [--states] [--enabled] [--until <N>] [--json] [--explain] <FILE>^^For more information, try '--help'.^ | 2
+replay f --json --json | tick(5) |  | error: the argument '--json' cannot be used multiple times^^Usage: ioac replay [--comp <NAME>] [--log [--invariants]] [--states] [--enabled] [--coverage] [--until <N>] [--json] [--explain] <FILE>^^For more information, try '--help'.^ | 2
 log f --json | tick(5) |  | error: unexpected argument '--json' found^^  tip: to pass '--json' as a value, use '-- --json'^^Usage: ioac log <FILE>^^For more information, try '--help'.^ | 2
 "#;
 

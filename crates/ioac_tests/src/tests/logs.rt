@@ -103,9 +103,9 @@ replay f | {"act":"tick(5)","who":0}^{"end":"done after 1"}^ |  | L2 line 1^ | 4
 replay g --log | x |  | io^ | 5
 replay f --log --comp Nine | x |  | E17^ | 1
 -- words
-replay f --log g |  |  | error: unexpected argument 'g' found^^Usage: ioac replay [--comp <NAME>] [--log [--invariants]] [--states] [--enabled] [--until <N>] [--json] [--explain] <FILE>^^For more information, try '--help'.^ | 2
-replay f --log --log |  |  | error: the argument '--log' cannot be used multiple times^^Usage: ioac replay [--comp <NAME>] [--log [--invariants]] [--states] [--enabled] [--until <N>] [--json] [--explain] <FILE>^^For more information, try '--help'.^ | 2
-replay --log |  |  | error: the following required arguments were not provided:^  <FILE>^^Usage: ioac replay [--comp <NAME>] [--log [--invariants]] [--states] [--enabled] [--until <N>] [--json] [--explain] <FILE>^^For more information, try '--help'.^ | 2
+replay f --log g |  |  | error: unexpected argument 'g' found^^Usage: ioac replay [--comp <NAME>] [--log [--invariants]] [--states] [--enabled] [--coverage] [--until <N>] [--json] [--explain] <FILE>^^For more information, try '--help'.^ | 2
+replay f --log --log |  |  | error: the argument '--log' cannot be used multiple times^^Usage: ioac replay [--comp <NAME>] [--log [--invariants]] [--states] [--enabled] [--coverage] [--until <N>] [--json] [--explain] <FILE>^^For more information, try '--help'.^ | 2
+replay --log |  |  | error: the following required arguments were not provided:^  <FILE>^^Usage: ioac replay [--comp <NAME>] [--log [--invariants]] [--states] [--enabled] [--coverage] [--until <N>] [--json] [--explain] <FILE>^^For more information, try '--help'.^ | 2
 "#;
 
 /// Logs with CR and tabs, which are blanks of JSON, and of actions.

@@ -57,5 +57,5 @@ library --help |  | Prints the library of link protocols, a source to check, run
 -- the version
 --version |  | ioac 0.2.0^ |  | 0
 -V |  | ioac 0.2.0^ |  | 0
-replay --version |  |  | error: unexpected argument '--version' found^^  tip: to pass '--version' as a value, use '-- --version'^^Usage: ioac replay [--comp <NAME>] [--log [--invariants]] [--states] [--enabled] [--until <N>] [--json] [--explain] <FILE>^^For more information, try '--help'.^ | 2
+replay --version |  |  | error: unexpected argument '--version' found^^  tip: to pass '--version' as a value, use '-- --version'^^Usage: ioac replay [--comp <NAME>] [--log [--invariants]] [--states] [--enabled] [--coverage] [--until <N>] [--json] [--explain] <FILE>^^For more information, try '--help'.^ | 2
 ";

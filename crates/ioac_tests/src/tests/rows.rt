@@ -2,9 +2,9 @@
 
 use crate::tests::shelf::{COUNTER, First, expect_rows};
 use crate::tests::{
-    bounds, changes, choices, commands, composed, constants, crashes, cuts, declared, invariants,
-    json, lines, list_logs, lists, logs, loops, objects, pictures, proposals, requests, states,
-    turns, watches,
+    bounds, changes, choices, commands, composed, constants, coverage, crashes, cuts, declared,
+    invariants, json, lines, list_logs, lists, logs, loops, objects, pictures, proposals, requests,
+    states, turns, watches,
 };
 use std::alloc::Global;
 use std::process::Abort;
@@ -44,7 +44,8 @@ const SOURCES: [(&str, First<'static>); 21] = [
 ];
 
 /// Those about what is asked of lists, of logs, and of the program.
-const REQUESTS: [(&str, First<'static>); 18] = [
+const REQUESTS: [(&str, First<'static>); 19] = [
+    (coverage::ROWS, First::All),
     (crashes::LOGS, First::All),
     (cuts::ROWS, First::Words(COUNTER)),
     (cuts::COMPOSED, First::All),

@@ -57,6 +57,11 @@ const COUNTS: &str = "\
 --alone --turns 2 --inputs l |  | reset | tick(5)^reset^tick(5)^end: done after 3^ |  | 0
 --alone --turns 2 --inputs l --reports |  | % once^^reset^ | tick(5)^reset^tick(5)^end: done after 3^ | A: 2 committed, 0 idle, 0 stale, turns done^environment: 1 committed, 1 idle, 0 stale, turns done^ | 0
 --alone --turns 2 --inputs l --log |  | reset | {\"act\":\"tick(5)\",\"who\":0}^{\"act\":\"reset\",\"who\":1}^{\"act\":\"tick(5)\",\"who\":0}^{\"end\":\"done after 3\"}^ |  | 0
+-- how often each entry is performed, by the run's log, behind the reports
+--alone --turns 2 --inputs l --coverage |  | reset | tick(5)^reset^tick(5)^end: done after 3^ | A: tick: performed 2^A: reset: performed 1^ | 0
+--alone --turns 2 --inputs l --coverage --reports |  | reset | tick(5)^reset^tick(5)^end: done after 3^ | A: 2 committed, 0 idle, 0 stale, turns done^environment: 1 committed, 1 idle, 0 stale, turns done^A: tick: performed 2^A: reset: performed 1^ | 0
+--turns 3 --coverage |  |  | tick(5)^tick(6)^tick(7)^end: done after 3^ | A: tick: performed 3^A: reset: never performed^ | 0
+--alone --turns 0 --coverage |  |  | end: done after 0^ | A: tick: never performed^A: reset: never performed^ | 0
 --alone --turns 0 |  |  | end: done after 0^ |  | 0
 --alone --turns 2 --inputs l |  | tick(5) |  | N2 index 0^ | 4
 --alone --turns 2 --inputs l |  | reset^% no^tick( |  | L2 line 3^ | 4
@@ -88,6 +93,10 @@ const COUNTS: &str = "\
 -- runs by many seeds: the decimal digits of each number, in order, from the first to the last
 --alone --turns 2 --seeds 9..11 |  |  | 0000000000000000000000000000000000000000000000000000000000000009 end: done after 2^0000000000000000000000000000000000000000000000000000000000000010 end: done after 2^0000000000000000000000000000000000000000000000000000000000000011 end: done after 2^seeds 3; done 3; fault 0^ |  | 0
 --alone --turns 2 --inputs l --seeds 7..7 |  | reset | 0000000000000000000000000000000000000000000000000000000000000007 end: done after 3^seeds 1; done 1; fault 0^ |  | 0
+-- how often each entry is performed in all of them together
+--alone --turns 2 --seeds 9..11 --coverage |  |  | 0000000000000000000000000000000000000000000000000000000000000009 end: done after 2^0000000000000000000000000000000000000000000000000000000000000010 end: done after 2^0000000000000000000000000000000000000000000000000000000000000011 end: done after 2^seeds 3; done 3; fault 0^ | A: tick: performed 6^A: reset: never performed^ | 0
+--alone --turns 2 --inputs l --seeds 7..8 --coverage |  | reset | 0000000000000000000000000000000000000000000000000000000000000007 end: done after 3^0000000000000000000000000000000000000000000000000000000000000008 end: done after 3^seeds 2; done 2; fault 0^ | A: tick: performed 4^A: reset: performed 2^ | 0
+--alone --turns 2 --seeds 9..9 --coverage --json |  |  | {\"seed\":\"0000000000000000000000000000000000000000000000000000000000000009\",\"end\":\"done\",\"count\":2,\"verdicts\":[]}^{\"seeds\":1,\"done\":1,\"fault\":0,\"verdicts\":[]}^ | A: tick: performed 2^A: reset: never performed^ | 0
 --alone --turns 0 --seeds 000255..256 |  |  | 0000000000000000000000000000000000000000000000000000000000000255 end: done after 0^0000000000000000000000000000000000000000000000000000000000000256 end: done after 0^seeds 2; done 2; fault 0^ |  | 0
 --alone --turns 1 --seeds 18446744073709551615..18446744073709551615 |  |  | 0000000000000000000000000000000000000000000018446744073709551615 end: done after 1^seeds 1; done 1; fault 0^ |  | 0
 -- the same as objects
@@ -134,6 +143,9 @@ const COUNTS: &str = "\
 /// The same.
 const FAULTS: &str = "\
 --alone --turns 1 |  |  | end: fault 4 in component 1 at 0^ |  | 3
+-- the action that faults is not performed
+--alone --turns 1 --coverage |  |  | end: fault 4 in component 1 at 0^ | G: go: never performed^P: go: never performed^ | 3
+--alone --turns 1 --seeds 0..0 --coverage |  |  | 0000000000000000000000000000000000000000000000000000000000000000 end: fault 4 in component 1 at 0^seeds 1; done 0; fault 1^ | G: go: never performed^P: go: never performed^ | 3
 --alone --turns 1 --log --reports |  |  | {\"act\":\"go\",\"who\":0}^{\"end\":\"fault 4 in component 1 at 0\"}^ | G: 0 committed, 0 idle, 0 stale, faulted^P: 0 committed, 1 idle, 0 stale, turns done^environment: 0 committed, 1 idle, 0 stale, turns done^ | 3
 --alone --turns 1 --seeds 0..1 |  |  | 0000000000000000000000000000000000000000000000000000000000000000 end: fault 4 in component 1 at 0^0000000000000000000000000000000000000000000000000000000000000001 end: fault 4 in component 1 at 0^seeds 2; done 0; fault 2^ |  | 3
 --alone --turns 0 --seeds 3..3 |  |  | 0000000000000000000000000000000000000000000000000000000000000003 end: done after 0^seeds 1; done 1; fault 0^ |  | 0

@@ -1,6 +1,6 @@
 use Rattle.std.proofs.Common.{codes}
 use Rattle.clap.specs.Words.{App, new_app, with_rule}
-use Rattle.ioa_request.specs.CommandLine.{alone_rule, comp_rule, explain_rule, file_rule, inputs_rule, invariants_rule, json_rule, keep_rule, log_rule, monitor_rule, reports_rule, resume_rule, seed_rule, seeds_rule, turns_rule, words_rule}
+use Rattle.ioa_request.specs.CommandLine.{alone_rule, comp_rule, coverage_rule, explain_rule, file_rule, inputs_rule, invariants_rule, json_rule, keep_rule, log_rule, monitor_rule, reports_rule, resume_rule, seed_rule, seeds_rule, turns_rule, words_rule}
 use Rattle.ioa_request.proofs.run_usage.run_command.Goals as goal
 
 pub returns-clause-app : goal.returns-clause-app
@@ -36,7 +36,9 @@ returns-clause-app c =
     let fourteen = c.taking-command-14.ensures.app has_thirteen log_rule thirteen c.log_flag.ensures.local c.log_flag.ensures.rule in
     let has_fifteen : App = with_rule has_fourteen reports_rule in
     let fifteen = c.taking-command-15.ensures.app has_fourteen reports_rule fourteen c.reports_flag.ensures.local c.reports_flag.ensures.rule in
-    c.taking.ensures.app has_fifteen explain_rule fifteen c.explain_flag.ensures.local c.explain_flag.ensures.rule
+    let has_sixteen : App = with_rule has_fifteen coverage_rule in
+    let sixteen = c.taking-command-16.ensures.app has_fifteen coverage_rule fifteen c.coverage_flag.ensures.local c.coverage_flag.ensures.rule in
+    c.taking.ensures.app has_sixteen explain_rule sixteen c.explain_flag.ensures.local c.explain_flag.ensures.rule
 
 pub returns-clause-local : goal.returns-clause-local
 returns-clause-local c =
@@ -55,4 +57,5 @@ returns-clause-local c =
     let thirteen = c.taking-command-13.ensures.local twelve c.resume_option.ensures.local in
     let fourteen = c.taking-command-14.ensures.local thirteen c.log_flag.ensures.local in
     let fifteen = c.taking-command-15.ensures.local fourteen c.reports_flag.ensures.local in
-    c.taking.ensures.local fifteen c.explain_flag.ensures.local
+    let sixteen = c.taking-command-16.ensures.local fifteen c.coverage_flag.ensures.local in
+    c.taking.ensures.local sixteen c.explain_flag.ensures.local

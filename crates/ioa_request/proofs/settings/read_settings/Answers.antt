@@ -29,4 +29,5 @@ returns-clause-some c =
       resume = given found (codes "resume") (option_copied c.get_str-resume.result) c.get_str-resume.ensures;
       log = sym c.is_set-log.ensures;
       reports = sym c.is_set-reports.ensures;
+      coverage = sym c.is_set-coverage.ensures;
     }

@@ -27,32 +27,30 @@ pub tell_all-requires : goal.tell_all-requires
 tell_all-requires g c =
     names_count (g.F.Store.holds c.args.store.now) c.args.seeds.now c.in_ok-sown.sown c.in_ok-sown.ensures.sown ∙ lent_count c.args.seeds.now.monitors.now
 
-pub returns-in_err-tally-clause-refused : goal.returns-in_err-tally-clause-refused
-returns-in_err-tally-clause-refused g c =
-    let e = err_from_is_err_and c.from_residual-in_err-tally.result c.from_residual-in_err-tally.ensures.1 in
+pub returns-in_err-told-clause-refused : goal.returns-in_err-told-clause-refused
+returns-in_err-told-clause-refused g c =
+    let e = err_from_is_err_and c.from_residual-in_err-told.result c.from_residual-in_err-told.ensures.1 in
     let f : Files = files g.F.Store.holds g.F.Store.lacks g.F.Store.begins g.F.Store.bars g.F.Store.saves c.args.store.now c.args.store.now in
-    err_so c.from_residual-in_err-tally.result e.0 _ _ e.1 e.2
+    err_so c.from_residual-in_err-told.result e.0 _ _ e.1 e.2
     (unserved f c.args.seeds.now c.in_ok-sown.sown c.in_ok-sown.ensures.sown c.in_ok-ask_keep.ensures.ok (g.W.Write.contents c.args.output.now) (g.W.Write.contents c.tell_all.new.output)
-    (HasFailed (g.W.Device.failure_count c.args.output.now) (g.W.Device.failure_count c.tell_all.new.output)) c.in_err-tally.field-0.0 refl c.in_err-tally.ensures.refused)
+    (HasFailed (g.W.Device.failure_count c.args.output.now) (g.W.Device.failure_count c.tell_all.new.output)) c.in_err-told.field-0.0 refl c.in_err-told.ensures.refused)
 
 pub returns-in_err-keep-clause-refused : goal.returns-in_err-keep-clause-refused
 returns-in_err-keep-clause-refused g c =
     let e = err_from_is_err_and c.from_residual-in_err-keep.result c.from_residual-in_err-keep.ensures.1 in
     let f : Files = files g.F.Store.holds g.F.Store.lacks g.F.Store.begins g.F.Store.bars g.F.Store.saves c.args.store.now c.keep.new.store in
-    let told = c.in_ok-tally.ensures.told in
+    let told = c.in_ok-told.ensures.told in
     err_so c.from_residual-in_err-keep.result e.0 _ _ e.1 e.2
     (unkept f c.args.seeds.now c.in_ok-sown.sown c.in_ok-sown.ensures.sown c.in_ok-ask_keep.ensures.ok (g.W.Write.contents c.args.output.now) (g.W.Write.contents c.tell_all.new.output)
-    c.in_ok-tally.tally told.0 told.1 (HasFailed (g.W.Device.failure_count c.args.output.now) (g.W.Device.failure_count c.tell_all.new.output)) c.in_err-keep.field-0.0
+    c.in_ok-told.told.tally told.0 told.1 (HasFailed (g.W.Device.failure_count c.args.output.now) (g.W.Device.failure_count c.tell_all.new.output)) c.in_err-keep.field-0.0
     c.in_err-keep.ensures.unchanged c.in_err-keep.ensures.refused)
 
 pub returns-clause-served : goal.returns-clause-served
 returns-clause-served g c =
     let f : Files = files g.F.Store.holds g.F.Store.lacks g.F.Store.begins g.F.Store.bars g.F.Store.saves c.args.store.now c.keep.new.store in
-    let told = c.in_ok-tally.ensures.told in (
-      served f c.args.seeds.now c.in_ok-sown.sown c.in_ok-sown.ensures.sown c.in_ok-ask_keep.ensures.ok (g.W.Write.contents c.args.output.now) (g.W.Write.contents c.tell_all.new.output)
-          c.in_ok-tally.tally told.0 told.1 c.types-types.result.now c.silent.result.status c.types-types.ensures.value c.in_ok-keep.ensures.kept (c.silent.ensures.status ∙ c.status.ensures),
-      c.silent.ensures.reports,
-    )
+    let told = c.in_ok-told.ensures.told in
+    served f c.args.seeds.now c.in_ok-sown.sown c.in_ok-sown.ensures.sown c.in_ok-ask_keep.ensures.ok (g.W.Write.contents c.args.output.now) (g.W.Write.contents c.tell_all.new.output)
+    c.in_ok-told.told.tally told.0 told.1 c.types-types.result.now _ c.status.result c.types-types.ensures.value c.in_ok-keep.ensures.kept told.2 c.status.ensures
 
 pub returns-clause-kept : goal.returns-clause-kept
 returns-clause-kept g c =

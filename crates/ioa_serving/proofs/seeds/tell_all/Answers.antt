@@ -13,6 +13,14 @@ returns-in_err-tally-clause-refused g c =
     let e = err_from_is_err_and c.from_residual.result c.from_residual.ensures.1 in
     err_so c.from_residual.result e.0 _ _ e.1 e.2 c.in_err-tally.ensures.refused
 
+pub returns-in_err-coverage-clause-refused : goal.returns-in_err-coverage-clause-refused
+returns-in_err-coverage-clause-refused g c =
+    let e = err_from_is_err_and c.from_residual-in_err-coverage.result c.from_residual-in_err-coverage.ensures.1 in
+    let told = c.in_ok-tally.ensures.told in
+    err_so c.from_residual-in_err-coverage.result e.0 _ _ e.1 e.2
+    (inr (uncounted c.args.sown.now c.args.seeds.now (c.requires ∙ sym (lent_count c.args.seeds.now.monitors.now)) (g.W.Write.contents c.args.output.now) (g.W.Write.contents c.tell_runs.new.output) c.in_ok-tally.tally told.0 told.1
+    (HasFailed (g.W.Device.failure_count c.args.output.now) (g.W.Device.failure_count c.tell_runs.new.output))))
+
 pub counts_text-requires-clause-sums : goal.counts_text-requires-clause-sums
 counts_text-requires-clause-sums g c =
     let told = c.in_ok-tally.ensures.told in
@@ -50,4 +58,5 @@ returns-clause-told g c =
       told_with c.args.sown.now c.args.seeds.now (c.requires ∙ sym (lent_count c.args.seeds.now.monitors.now)) (g.W.Write.contents c.args.output.now) (g.W.Write.contents c.tell_runs.new.output) c.in_ok-tally.tally told.0 told.1
           (g.W.Write.contents c.send_all.new.output)
           (subst (λ (t : List ℕ). Appends (g.W.Write.contents c.tell_runs.new.output) (g.W.Write.contents c.send_all.new.output) t) (c.as_bytes.ensures.value ∙ c.in_ok-line.ensures) c.in_ok-send_all.ensures.ok),
+      c.in_ok-coverage.ensures c.args.sown.now.ready.program c.args.seeds.now.run.coverage told.0 told.1.covered,
     )

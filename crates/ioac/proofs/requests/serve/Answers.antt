@@ -35,3 +35,9 @@ returns-in-StrictMonitor-clause-refused g c = rw c.in-StrictMonitor.is c.monitor
 
 pub returns-in-MonitorJson-clause-refused : goal.returns-in-MonitorJson-clause-refused
 returns-in-MonitorJson-clause-refused g c = rw c.in-MonitorJson.is c.monitor_json.ensures.refused
+
+pub returns-in-ReplayCoverage-clause-served : goal.returns-in-ReplayCoverage-clause-served
+returns-in-ReplayCoverage-clause-served g c = rw c.in-ReplayCoverage.is c.replay_coverage.ensures.served
+
+pub returns-in-ReplayCoverage-clause-refused : goal.returns-in-ReplayCoverage-clause-refused
+returns-in-ReplayCoverage-clause-refused g c = rw c.in-ReplayCoverage.is c.replay_coverage.ensures.refused

@@ -1,0 +1,3 @@
+mod Examples
+pub mod Hosting
+pub mod Adding
