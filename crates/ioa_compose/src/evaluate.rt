@@ -229,13 +229,12 @@ fn selected<'a>(
     ensures { IfOk result (λ r. answer_in r ≡ meaning.selected types.now (name_of name.now) (given tuple.entry)) }
 {
     let place = place_in(types, tuple.value(), name);
-    match tuple {
-        Given::Lent(tuple) => Ok(Ok(Given::Lent(field(tuple, place)))),
-        Given::Own(tuple) => {
-            let operands = Vec::from_array(alloc, [tuple])?;
-            applied(alloc, types, Op::Field(place), operands)
-        }
+    if let Given::Lent(tuple) = &tuple {
+        return Ok(Ok(Given::Lent(field(*tuple, place))));
     }
+    let tuple = tuple.into_value(alloc)?;
+    let operands = Vec::from_array(alloc, [tuple])?;
+    applied(alloc, types, Op::Field(place), operands)
 }
 
 /// The place of the field of this name in a tuple.

@@ -9,10 +9,19 @@ use ioa_value::{Fault, OutOfMemory, Value};
 use std::alloc::Global;
 
 /// What an expression gives: a value of its scope, which is lent, or a part of one; or a value of its own.
-#[derive(Drop)]
 pub(crate) enum Given<'a> {
     Lent(&'a Value),
     Own(Value),
+}
+
+/// Written out, so that who drops one calls this, and does not take it apart itself.
+impl Drop for Given<'_> {
+    fn drop(self) {
+        match self {
+            Given::Lent(_) => {}
+            Given::Own(_) => {}
+        }
+    }
 }
 
 impl<'a> Given<'a> {

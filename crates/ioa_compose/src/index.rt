@@ -12,20 +12,36 @@ use std::collections::BTreeMap;
 const FEW: usize = 8;
 
 /// A name, and the items of this name.
-#[derive(Drop)]
 struct Row<P> {
     name: String,
     items: Vec<P>,
 }
 
+/// Written out, so that who drops one calls this, and does not take it apart itself.
+impl<P: Drop> Drop for Row<P> {
+    fn drop(self) {
+        let Row { name: _, items: _ } = self;
+    }
+}
+
 /// Items by names: those of one name in the order in which they were added. It wants memory for each name and for each item.
-#[derive(Drop)]
 pub struct Index<P> {
     alloc: Global,
     rows: Vec<Row<P>>,
     /// The numbers of the rows by their names.
     numbers: BTreeMap<String, usize>,
     ghost numbered: { AreNumbered numbers (names_of rows.items) },
+}
+
+/// Written out, so that who drops one calls this, and does not take it apart itself.
+impl<P: Drop> Drop for Index<P> {
+    fn drop(self) {
+        let Index {
+            alloc: _,
+            rows: _,
+            numbers: _,
+        } = self;
+    }
 }
 
 impl<P: Drop> Index<P> {

@@ -3,7 +3,7 @@
 use std::alloc::{AllocError, AllocFailed};
 
 /// Why the tokens do not go on as the grammar wants.
-#[derive(Clone, Copy, PartialEq, Eq, Debug)]
+#[derive(Clone, Copy)]
 pub(crate) enum Fault {
     /// Nothing goes on with the token before whose end so many are left, itself among them.
     Syntax(usize),
@@ -12,7 +12,7 @@ pub(crate) enum Fault {
 }
 
 /// Why nothing was read.
-#[derive(Clone, Copy, Debug)]
+#[derive(Clone, Copy)]
 pub(crate) enum ReadError {
     OutOfMemory,
     Fault(Fault),

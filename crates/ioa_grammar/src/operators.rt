@@ -9,7 +9,7 @@ use ioa_tree::Infix;
 use ioa_value::Op;
 
 /// How tightly operators bind, from the loosest on.
-#[derive(Clone, Copy, PartialEq, Eq, Debug)]
+#[derive(Clone, Copy)]
 pub(crate) enum Level {
     Implication,
     Disjunction,
@@ -24,7 +24,7 @@ pub(crate) enum Level {
 
 /// Whether an operand may be an operator's of the same level: neither, the left one or the right one; or the operator
 /// stands before its one operand, which may be; or around its operands.
-#[derive(Clone, Copy, PartialEq, Eq, Debug)]
+#[derive(Clone, Copy)]
 pub(crate) enum Grouping {
     Alone,
     Left,
@@ -34,7 +34,7 @@ pub(crate) enum Grouping {
 }
 
 /// How an operator is written.
-#[derive(Clone, Copy, Debug)]
+#[derive(Clone, Copy)]
 pub(crate) struct Form {
     pub level: Level,
     pub word: Terminal,

@@ -2,7 +2,6 @@
 
 use ioa_value::Terminal;
 /// What a token is.
-#[derive(Debug, Drop)]
 pub enum Kind {
     /// A whole number, at most 9223372036854775807.
     Number(u64),
@@ -12,9 +11,26 @@ pub enum Kind {
     Terminal(Terminal),
 }
 
+/// Written out, so that who drops one calls this, and does not take it apart itself.
+impl Drop for Kind {
+    fn drop(self) {
+        match self {
+            Kind::Number(_) => {}
+            Kind::Name(_) => {}
+            Kind::Terminal(_) => {}
+        }
+    }
+}
+
 /// A token, and the line on which it begins, counted from 1.
-#[derive(Debug, Drop)]
 pub struct Token {
     pub kind: Kind,
     pub line: u32,
+}
+
+/// Written out, so that who drops one calls this, and does not take it apart itself.
+impl Drop for Token {
+    fn drop(self) {
+        let Token { kind: _, line: _ } = self;
+    }
 }

@@ -106,12 +106,23 @@ fn entries(
 }
 
 /// What an entry is before its code.
-#[derive(Drop)]
 struct Front {
     kind: Kind,
     name: String,
     positions: Vec<Position>,
     consts: Vec<Value>,
+}
+
+/// Written out, so that who drops one calls this, and does not take it apart itself.
+impl Drop for Front {
+    fn drop(self) {
+        let Front {
+            kind: _,
+            name: _,
+            positions: _,
+            consts: _,
+        } = self;
+    }
 }
 
 /// The entry that comes after these.
@@ -127,7 +138,7 @@ fn entry(
     ensures { ReadsItem entry_code (spec.entry_at loops types.now (map number slots.now) (map entry_code before.now) cursor.old) result cursor.new }
 {
     let front = front_of(cursor, types, before)?;
-    coded(cursor, loops, types, slots, front)
+    front.coded(cursor, loops, types, slots)
 }
 
 /// What the entry is that comes after these, before its code.
@@ -192,48 +203,59 @@ fn position(cursor: &mut Cursor<'_>, types: &Types) -> Result<Position, ObjErr>
     }
 }
 
-/// The entry with its code, over variables of these types.
-#[tactic(auto, unfolding(crate::specs::Reading::coded_at))]
-fn coded(
-    cursor: &mut Cursor<'_>,
-    loops: bool,
-    types: &Types,
-    slots: &[Ty],
-    front: Front,
-) -> Result<Entry, ObjErr>
-    requires { OwnTypes types.now (map plain front.consts.items) }
-    ensures { ReadsItem entry_code (spec.coded_at loops types.now (map number slots.now) (opening front) cursor.old) result cursor.new }
-{
-    let alloc = cursor.alloc();
-    let arguments = position_types(alloc, &front.positions)?;
-    let parameters = parameter_types(alloc, &front.positions)?;
-    let pre = Env {
-        types,
-        kind: PartKind::Pre,
-        slots,
-        arguments: &arguments,
-        result: &[Ty::BOOL],
-    };
-    let propose = Env {
-        types,
-        kind: PartKind::Propose,
-        slots,
-        arguments: &[],
-        result: &parameters,
-    };
-    let effect = Env {
-        types,
-        kind: PartKind::Eff,
-        slots,
-        arguments: &arguments,
-        result: &[],
-    };
-    Ok(Entry {
-        pre: local_part(cursor, loops, front.kind, &front.consts, &pre)?,
-        propose: local_part(cursor, loops, front.kind, &front.consts, &propose)?,
-        effect: part(cursor, loops, &front.consts, &effect)?,
-        kind: front.kind,
-        name: front.name,
-        positions: front.positions,
-    })
+impl Front {
+    /// The entry with its code, over variables of these types.
+    #[tactic(auto, unfolding(crate::specs::Reading::coded_at))]
+    fn coded(
+        self,
+        cursor: &mut Cursor<'_>,
+        loops: bool,
+        types: &Types,
+        slots: &[Ty],
+    ) -> Result<Entry, ObjErr>
+        requires { OwnTypes types.now (map plain self.consts.items) }
+        ensures { ReadsItem entry_code (spec.coded_at loops types.now (map number slots.now) (opening self) cursor.old) result cursor.new }
+    {
+        let alloc = cursor.alloc();
+        let arguments = position_types(alloc, &self.positions)?;
+        let parameters = parameter_types(alloc, &self.positions)?;
+        let env = Env {
+            types,
+            kind: PartKind::Pre,
+            slots,
+            arguments: &arguments,
+            result: &[Ty::BOOL],
+        };
+        let pre = local_part(cursor, loops, self.kind, &self.consts, &env)?;
+        let env = Env {
+            types,
+            kind: PartKind::Propose,
+            slots,
+            arguments: &[],
+            result: &parameters,
+        };
+        let propose = local_part(cursor, loops, self.kind, &self.consts, &env)?;
+        let env = Env {
+            types,
+            kind: PartKind::Eff,
+            slots,
+            arguments: &arguments,
+            result: &[],
+        };
+        let effect = part(cursor, loops, &self.consts, &env)?;
+        let Front {
+            kind,
+            name,
+            positions,
+            consts: _,
+        } = self;
+        Ok(Entry {
+            pre,
+            propose,
+            effect,
+            kind,
+            name,
+            positions,
+        })
+    }
 }

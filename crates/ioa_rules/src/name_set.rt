@@ -10,11 +10,20 @@ use std::marker::Model;
 
 /// Names in the order in which they were put in, none twice. Looking one up takes a logarithm of their number, whichever they are:
 /// who chooses them cannot make them collide.
-#[derive(Drop)]
 pub struct NameSet<'a> {
     names: Vec<&'a str>,
     // The same names in their own order.
     sorted: BTreeSet<&'a str>,
+}
+
+/// Written out, so that who drops one calls this, and does not take it apart itself.
+impl Drop for NameSet<'_> {
+    fn drop(self) {
+        let NameSet {
+            names: _,
+            sorted: _,
+        } = self;
+    }
 }
 
 impl<'a> Model for NameSet<'a> {

@@ -22,13 +22,23 @@ use std::collections::BTreeMap;
 use std::marker::Model;
 
 /// Types that are still being declared: Bool, Int, and then the declared ones.
-#[derive(Drop)]
 pub struct Declarations {
     declared: Vec<Declared>,
     // Of each type how many words a value takes at most.
     widths: Vec<usize>,
     // The types by name.
     types: BTreeMap<String, Ty>,
+}
+
+/// Written out, so that who drops one calls this, and does not take it apart itself.
+impl Drop for Declarations {
+    fn drop(self) {
+        let Declarations {
+            declared: _,
+            widths: _,
+            types: _,
+        } = self;
+    }
 }
 
 impl Model for Declarations {
@@ -126,11 +136,19 @@ impl Declarations {
         let width = self.width(&declared.form);
         let ty = self.next();
         let name = declared.name.clone()?;
-        let mut types = self;
-        types.types.insert(name, ty)?;
-        types.widths.push(width)?;
-        add_declared(&mut types.declared, declared)?;
-        Ok(types)
+        let Declarations {
+            declared: mut all,
+            mut widths,
+            mut types,
+        } = self;
+        types.insert(name, ty)?;
+        widths.push(width)?;
+        add_declared(&mut all, declared)?;
+        Ok(Declarations {
+            declared: all,
+            widths,
+            types,
+        })
     }
 
     /// The types, to be shared.
@@ -138,14 +156,17 @@ impl Declarations {
         ensures { IfOk result (λ t. t ≡ self) }
     {
         let constants = constants_of(alloc, &self.declared)?;
-        Types::of(
-            alloc,
-            Listing {
-                declared: self.declared,
-                types: self.types,
-                constants,
-            },
-        )
+        let Declarations {
+            declared,
+            widths: _,
+            types,
+        } = self;
+        let listing = Listing {
+            declared,
+            types,
+            constants,
+        };
+        Types::of(alloc, listing)
     }
 }
 

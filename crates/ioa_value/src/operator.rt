@@ -55,7 +55,7 @@ pub enum Op {
 }
 
 /// What an operator takes and gives, which is said once for all operators of a class.
-#[derive(Clone, Copy, PartialEq, Eq, Debug)]
+#[derive(Clone, Copy)]
 pub(crate) enum Class {
     /// Of a number a number.
     Negation,

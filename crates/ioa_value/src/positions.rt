@@ -13,12 +13,21 @@ use crate::value::{Ty, Value, same};
 use std::alloc::Global;
 
 /// A position of an entry: which values an action may have in its place.
-#[derive(Drop)]
 pub enum Position {
     /// Any value of the type.
     Typed(Ty),
     /// This value alone.
     Constant(Value),
+}
+
+/// Written out, so that who drops one calls this, and does not take it apart itself.
+impl Drop for Position {
+    fn drop(self) {
+        match self {
+            Position::Typed(_) => {}
+            Position::Constant(_) => {}
+        }
+    }
 }
 
 impl Position {

@@ -1,7 +1,7 @@
 //! The alphabet of the grammar, but for names and numbers.
 
 /// A reserved word or a sign.
-#[derive(Clone, Copy, PartialEq, Eq, Debug)]
+#[derive(Clone, Copy, PartialEq, Eq)]
 pub enum Terminal {
     // Reserved words.
     Type,

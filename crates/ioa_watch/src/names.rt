@@ -14,11 +14,17 @@ use ioa_value::OutOfMemory;
 use std::alloc::Global;
 
 /// Names in the order in which they were put in, none twice, and their places.
-#[derive(Drop)]
 pub(crate) struct Names<'a> {
     pub list: Vec<&'a str>,
     places: Index<usize>,
     ghost placed: { ArePlaced places (shown list.items) },
+}
+
+/// Written out, so that who drops one calls this, and does not take it apart itself.
+impl Drop for Names<'_> {
+    fn drop(self) {
+        let Names { list: _, places: _ } = self;
+    }
 }
 
 impl<'a> Names<'a> {

@@ -7,7 +7,6 @@ use ioa_system::{End, System};
 
 /// A specification on its way through a stream: it performs the actions of its names, and counts them. Those of other names are passed over,
 /// whatever their values.
-#[derive(Drop)]
 pub struct Watcher<'a> {
     pub(crate) system: System<'a>,
     /// The names of its entries, each once, and of each how many actions were taken.
@@ -20,4 +19,18 @@ pub struct Watcher<'a> {
     /// Why that one is refused. No later one is heard.
     pub(crate) refusal: Option<End>,
     ghost counted: { (length counts.items ≡ length names.list.items) × All (λ k. k ≤ heard) counts.items × (others ≤ heard) },
+}
+
+/// Written out, so that who drops one calls this, and does not take it apart itself.
+impl Drop for Watcher<'_> {
+    fn drop(self) {
+        let Watcher {
+            system: _,
+            names: _,
+            counts: _,
+            others: _,
+            heard: _,
+            refusal: _,
+        } = self;
+    }
 }
