@@ -51,7 +51,7 @@ measured() {
     # shellcheck disable=SC2086
     timeout 300 "$program" run "$work/source.ioa" $1 --turns "$2" --reports > "$work/printed" 2> "$work/reports"
     till=$(date +%s.%N)
-    awk -v a="$from" -v b="$till" '$1 != "environment:" { done += $2; stale += $6; all += $2 + $4 + $6 } END { print b - a, done, stale, all }' "$work/reports"
+    awk -v a="$from" -v b="$till" '$1 != "environment:" && / committed, / { done += $2; stale += $6; all += $2 + $4 + $6 } END { print b - a, done, stale, all }' "$work/reports"
   done | sort -g | head -n 1
 }
 # compared KIND COUNT LENGTH TURNS

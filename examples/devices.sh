@@ -254,7 +254,7 @@ else
 fi
 
 # Killed on the way: after times of up to twice what it takes, and every other time once it writes
-[ -z "$(ls -A | grep part)" ] || fail compile "it leaves a file"
+[ -z "$(ls -A | grep '\.part$')" ] || fail compile "it leaves a file"
 cp small out
 from=$(date +%s%N)
 "$program" compile source.ioa timed --comp Big > "$work/printed"

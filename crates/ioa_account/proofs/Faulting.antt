@@ -20,13 +20,13 @@ use Rattle.ioa_tree.specs.Tree.{Expr, InvariantTree, VariableTree}
 use Rattle.ioa_tree.proofs.Agreement.{val_same}
 use Rattle.ioa_compose.specs.Faults.{condition_fault, fault_of}
 use Rattle.ioa_compose.specs.Fine.{AreOver, IsSound}
-use Rattle.ioa_compose.specs.Rewriting.{added_variables, spelled}
+use Rattle.ioa_crash.specs.Rewriting.{added_variables, spelled}
 use Rattle.ioa_compose.specs.Simulates.{SlotsHold, SlotsHoldAt, IsMadeOf, Simulates}
 use Rattle.ioa_compose.proofs.FirstVariables.{values_before}
-use Rattle.ioa_compose.proofs.QuestionLemmas.{all_found}
+use Rattle.ioa_clash.proofs.ZipLemmas.{all_found}
 use Rattle.ioa_compose.proofs.StandLemmas.{first_values, long_enough, none_spelled}
 use Rattle.ioa_compile.specs.Correspondence.{CorrespondsAt}
-use Rattle.ioa_log.specs.Breaking.{AreStates, IsState, states_in}
+use Rattle.ioa_inspect.specs.Breaking.{AreStates, IsState, states_in}
 use Rattle.ioa_account.specs.Faults.{fault_among, fault_at, fault_in, host_fault, invariant_fault, member_fault, slots_fault, state_fault}
 
 -- ---- of one component, made of a host

@@ -11,7 +11,7 @@ use Rattle.ioa_compile.specs.Programs.{MemberCode, Prog}
 use Rattle.ioa_compile.specs.Shown.{member_code}
 use Rattle.ioa_compile.specs.Tables.{start_states, tabled}
 use Rattle.ioa_system.specs.declared.outcomes.Step.{Step}
-use Rattle.ioa_log.specs.Monitoring.{IsRefusedAt, hides, monitored}
+use Rattle.ioa_monitor.specs.Monitoring.{IsRefusedAt, hides, monitored}
 use Rattle.ioa_account.specs.Counts.{known_actions}
 use Rattle.ioa_account.specs.Objects.{TellsObject, ending_at, member_name, reason, refusal_text}
 use Rattle.ioa_account.specs.Quoted.{line_text}

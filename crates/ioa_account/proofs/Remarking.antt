@@ -6,21 +6,19 @@ use Rattle.std.proofs.lemmas.Simd.{map-map}
 use Rattle.ioa_value.specs.Actions.{Act, act_of}
 use Rattle.ioa_value.specs.declared.action.Action.{Action}
 use Rattle.ioa_tree.specs.Components.{Component, has}
-use Rattle.ioa_tree.specs.Compositions.{Composed}
 use Rattle.ioa_tree.specs.Hosts.{Hosted, first_broken_host, host_instances, host_starts, hosts_of}
 use Rattle.ioa_tree.specs.Invariants.{Broken}
 use Rattle.ioa_tree.specs.Runs.{Ending}
 use Rattle.ioa_tree.specs.Steps.{participants}
-use Rattle.ioa_compose.specs.Simulates.{Simulates}
-use Rattle.ioa_compile.specs.Implements.{Implements}
 use Rattle.ioa_compile.specs.Programs.{Prog}
+use Rattle.ioa_compile.specs.Subjects.{RunsAs, Subject, its_components}
 use Rattle.ioa_compile.specs.Tables.{tabled}
+use Rattle.ioa_compile.proofs.Subjects.{participants_as}
 use Rattle.ioa_system.specs.declared.outcomes.Step.{Step}
 use Rattle.ioa_system.specs.declared.log.Log.{Log}
 use Rattle.ioa_system.specs.declared.log.LogEntry.{LogEntry}
 use Rattle.ioa_system.specs.Logs.{Logged, actions_of, log_entry, logged}
-use Rattle.ioa_system.proofs.Hosting.{host_participants}
-use Rattle.ioa_log.specs.Monitoring.{IsHiding, IsRefusedAt, monitored}
+use Rattle.ioa_monitor.specs.Monitoring.{IsHiding, IsRefusedAt, monitored}
 use Rattle.ioa_account.specs.Counts.{asked_invariants, known_actions}
 use Rattle.ioa_account.specs.declared.remarks.Told.{Told}
 use Rattle.ioa_account.specs.Remarks.{TellsBroken, TellsEnd, TellsInspected, TellsMonitored, TellsRefusal, asked_text, known_among, known_text, log_line, no_line, states_asked}
@@ -61,15 +59,15 @@ known_passed ps acts a unknown =
     sym (filter-append (λ b. list_any (has b) ps) acts (a ∷ []) ∙ ap (λ more. known_among ps acts ++ more) none ∙ append-nil (known_among ps acts))
 
 -- the same where the same components take part in each action
-pub known_among_alike : {S T : Type 0} (ps : List (Component S)) (qs : List (Component T)) (acts : List Act) → ((a : Act) → participants ps a ≡ participants qs a)
+known_among_alike : {S T : Type 0} (ps : List (Component S)) (qs : List (Component T)) (acts : List Act) → ((a : Act) → participants ps a ≡ participants qs a)
     → known_among ps acts ≡ known_among qs acts
 known_among_alike ps qs [] same = refl
 known_among_alike ps qs (a ∷ acts) same =
     ap₂ (λ known rest. cond known (a ∷ rest) rest) (known_first ps qs a (same a)) (known_among_alike ps qs acts same)
 
--- of a composition's program and of the hosts that the composition stands for
-pub known_to_hosts : (p : Prog) (c : Composed) (acts known : List Act) (h : Hosted) → Simulates h c → Implements p c → known ≡ known_among (tabled p) acts → known ≡ known_among (hosts_of h) acts
-known_to_hosts p c acts known h stands means e = e ∙ known_among_alike (tabled p) (hosts_of h) acts (λ a. host_participants p h c a stands means)
+-- of a program and of what it runs as
+pub known_among_as : (p : Prog) (s : Subject) → RunsAs p s → (acts : List Act) → known_among (tabled p) acts ≡ known_among (its_components s) acts
+known_among_as p s runs acts = known_among_alike (tabled p) (its_components s) acts (participants_as p s runs)
 
 -- ---- what a monitor answers
 

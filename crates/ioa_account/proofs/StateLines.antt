@@ -22,8 +22,9 @@ use Rattle.ioa_tree.specs.Likes.{AllRelated}
 use Rattle.ioa_tree.specs.Meaning.{Env, values_of}
 use Rattle.ioa_tree.specs.Tree.{CrashTree, VariableTree}
 use Rattle.ioa_tree.proofs.FineParts.{fine_parts}
-use Rattle.ioa_compose.specs.Fine.{AllFine, IsFine, IsSound, component_limits}
-use Rattle.ioa_compose.specs.Rewriting.{added_variables}
+use Rattle.ioa_compose.specs.Fine.{AllFine, IsFine, IsSound}
+use Rattle.ioa_crash.specs.Limits.{component_limits}
+use Rattle.ioa_crash.specs.Rewriting.{added_variables}
 use Rattle.ioa_compose.specs.Simulates.{SlotsHold, SlotsHoldAt, IsMadeOf, Simulates, TellsUp}
 use Rattle.ioa_picture.specs.Lines.{numbered}
 use Rattle.ioa_account.specs.States.{component_lines, host_lines, is_down, is_down_at, is_down_by, is_down_in_slots, is_down_of, slot_line, slot_lines, slot_name, slots_at, slots_in, state_lines, tells_down, up_line, value_line, variable_line}

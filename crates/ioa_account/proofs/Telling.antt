@@ -1,5 +1,5 @@
 -- What is told of hosts is what is told of the composition that stands for them.
-use Rattle.std.proofs.Common.{◌≡◌, ℕ, zero, suc, Bool, false, List, [], ◌∷◌, Option, Some, None, Result, Ok, Err, IfOk, map, slice_get, refl, sym, ap, ◌∙◌}
+use Rattle.std.proofs.Common.{◌≡◌, ℕ, zero, suc, false, List, [], ◌∷◌, Option, Some, None, map, slice_get, refl, sym, ap, ◌∙◌}
 use Rattle.std.specs.List.{AllZip}
 use Rattle.std.specs.Option.{option_map, option_map_or}
 use Rattle.std.specs.String.{string_bytes}
@@ -7,20 +7,18 @@ use Rattle.std.proofs.lemmas.Option.{slice_get-map}
 use Rattle.ioa_value.specs.Actions.{Act}
 use Rattle.ioa_value.specs.Plain.{Val}
 use Rattle.ioa_value.proofs.ItemLemmas.{image_at}
-use Rattle.ioa_tree.specs.Compositions.{Composed, Member}
-use Rattle.ioa_tree.specs.Hosts.{Host, Hosted, host_starts, hosts_of}
+use Rattle.ioa_tree.specs.Compositions.{Member}
+use Rattle.ioa_tree.specs.Hosts.{Host}
 use Rattle.ioa_tree.specs.Runs.{run}
 use Rattle.ioa_compose.specs.declared.member.Member as held
 use Rattle.ioa_compose.specs.Held.{member_of}
-use Rattle.ioa_compose.specs.Simulates.{IsMadeOf, Simulates}
-use Rattle.ioa_compile.specs.Implements.{Implements}
+use Rattle.ioa_compose.specs.Simulates.{IsMadeOf}
 use Rattle.ioa_compile.specs.Programs.{Prog}
+use Rattle.ioa_compile.specs.Subjects.{RunsAs, Subject, its_components, its_starts}
 use Rattle.ioa_compile.specs.Tables.{start_states, tabled}
 use Rattle.ioa_system.specs.Preconditions.{precondition_faults}
-use Rattle.ioa_system.proofs.Hosting.{host_asked, host_participants}
+use Rattle.ioa_system.proofs.Subjects.{asked_as}
 use Rattle.ioa_account.specs.Accounts.{faults_early, name_at}
-use Rattle.ioa_account.specs.Counts.{known_actions}
-use Rattle.ioa_account.proofs.Counting.{known_alike}
 
 -- the name of the component of this number
 names_alike : (ps : List Host) (ms : List Member) (i : ℕ) → AllZip IsMadeOf ps ms → option_map_or (λ (m : Member). m.name) (slice_get ms i) [] ≡ name_at ps i
@@ -37,21 +35,14 @@ pub unnamed : (xs : List held.Member) (i : ℕ) (ps : List Host) → slice_get x
 unnamed xs i ps at made =
     sym (ap (λ (o : Option Member). option_map_or (λ (m : Member). m.name) o []) (slice_get-map member_of xs i ∙ ap (option_map member_of) at)) ∙ names_alike ps (map member_of xs) i made
 
--- ---- actions that are known
-
-pub known_hosts : {E : Type 0} (p : Prog) (acts : List Act) (r : Result ℕ E) → IfOk r (λ n. n ≡ known_actions (tabled p) acts)
-    → IfOk r (λ n. (h : Hosted) (c : Composed) → Simulates h c → Implements p c → n ≡ known_actions (hosts_of h) acts)
-known_hosts p acts (Ok n) e = λ h c stands means. e ∙ known_alike (tabled p) (hosts_of h) acts (λ a. host_participants p h c a stands means)
-known_hosts p acts (Err e) k = tt
-
 -- ---- whether a precondition faults
 
--- for the hosts as for the table, where their runs end
-pub early_alike : (p : Prog) (h : Hosted) (c : Composed) (acts : List Act) (i : ℕ) (ss : List (List Val)) → Simulates h c → Implements p c → ss ≡ (run (tabled p) acts (start_states p)).states
-    → faults_early (tabled p) acts i ss ≡ faults_early (hosts_of h) acts i (run (hosts_of h) acts (host_starts h)).states
-early_alike p h c acts i ss stands means same = ap (faults_early (tabled p) acts i) same ∙ sym (at (slice_get acts i))
+-- for the subject as for the table, where their runs end
+pub early_alike : (p : Prog) (s : Subject) → RunsAs p s → (acts : List Act) (i : ℕ) (ss : List (List Val)) → ss ≡ (run (tabled p) acts (start_states p)).states
+    → faults_early (tabled p) acts i ss ≡ faults_early (its_components s) acts i (run (its_components s) acts (its_starts s)).states
+early_alike p s runs acts i ss same = ap (faults_early (tabled p) acts i) same ∙ sym (at (slice_get acts i))
   where
-    at : (o : Option Act) → option_map_or (λ (a : Act). precondition_faults (hosts_of h) a (run (hosts_of h) acts (host_starts h)).states) o false
+    at : (o : Option Act) → option_map_or (λ (a : Act). precondition_faults (its_components s) a (run (its_components s) acts (its_starts s)).states) o false
         ≡ option_map_or (λ (a : Act). precondition_faults (tabled p) a (run (tabled p) acts (start_states p)).states) o false
     at None = refl
-    at (Some a) = host_asked p h c acts a stands means
+    at (Some a) = asked_as p s runs acts a

@@ -8,7 +8,7 @@ use Rattle.ioa_tree.specs.Runs.{Ending, done, not_an_action_at, not_enabled_at, 
 use Rattle.ioa_compile.specs.Programs.{MemberCode, Prog}
 use Rattle.ioa_compile.specs.Tables.{start_states, tabled}
 use Rattle.ioa_system.specs.declared.outcomes.Step.{Step}
-use Rattle.ioa_log.specs.Monitoring.{hides, monitored}
+use Rattle.ioa_monitor.specs.Monitoring.{hides, monitored}
 use Rattle.ioa_account.specs.Accounts.{action_text, fault_words}
 use Rattle.ioa_account.specs.Counts.{known_actions}
 use Rattle.ioa_account.specs.Ends.{index_in, owner_at}

@@ -19,8 +19,8 @@ use Rattle.ioa_compose.specs.Simulates.{Simulates}
 use Rattle.ioa_system.specs.Endings.{ending_text}
 use Rattle.ioa_system.specs.Logs.{Logged, actions_of, is_fault}
 use Rattle.ioa_system.specs.Outcomes.{ending_of}
+use Rattle.ioa_monitor.specs.Monitoring.{IsHiding, monitored}
 use Rattle.ioa_log.specs.Judging.{agrees, judged}
-use Rattle.ioa_log.specs.Monitoring.{IsHiding, monitored}
 use Rattle.ioa_account.specs.declared.ends.Account.{Account}
 use Rattle.ioa_account.specs.declared.remarks.Told.{Told}
 use Rattle.ioa_account.specs.Accounts.{IsAccount, TellsLine, action_text, fault_words, name_at}

@@ -4,11 +4,11 @@ ghost use Rattle.std.specs.Prelude.{◌≡◌, ◌<◌, ◌≤◌, IfOk, Some, l
 ghost use Rattle.std.specs.List.{list_any};
 ghost use Rattle.ioa_value.specs.Actions.{act_of};
 ghost use Rattle.ioa_tree.specs.Components.{has};
-ghost use Rattle.ioa_tree.specs.Compositions.{Composed, Member, instances_of};
-ghost use Rattle.ioa_tree.specs.Hosts.{Hosted, host_instances, hosts_of};
+ghost use Rattle.ioa_tree.specs.Compositions.{Member, instances_of};
+ghost use Rattle.ioa_tree.specs.Hosts.{Hosted, host_instances};
 ghost use Rattle.ioa_compose.specs.Held.{composed_of};
 ghost use Rattle.ioa_compose.specs.Simulates.{Simulates};
-ghost use Rattle.ioa_compile.specs.Implements.{Implements};
+ghost use Rattle.ioa_compile.specs.Subjects.{RunsAs, Subject, its_components};
 ghost use Rattle.ioa_compile.specs.Tables.{tabled};
 ghost use Rattle.ioa_account.specs.Counts as spec;
 
@@ -24,19 +24,7 @@ pub fn known_actions(
     program: &Program,
     actions: &[Action],
 ) -> Result<usize, OutOfMemory>
-    ensures table { IfOk result (λ count. count ≡ spec.known_actions (tabled program.now) (map act_of actions.now)) }
-    ensures hosts { IfOk result (λ count. (h : Hosted) (c : Composed) → Simulates h c → Implements program.now c → count ≡ spec.known_actions (hosts_of h) (map act_of actions.now)) }
-{
-    known_to_table(alloc, program, actions)
-}
-
-/// The same, said of the program's own table.
-fn known_to_table(
-    alloc: Global,
-    program: &Program,
-    actions: &[Action],
-) -> Result<usize, OutOfMemory>
-    ensures { IfOk result (λ count. count ≡ spec.known_actions (tabled program.now) (map act_of actions.now)) }
+    ensures { IfOk result (λ count. (s : Subject) → RunsAs program.now s → count ≡ spec.known_actions (its_components s) (map act_of actions.now)) }
 {
     let mut count = 0;
     for action in actions {

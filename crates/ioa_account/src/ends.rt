@@ -3,7 +3,6 @@
 ghost use Rattle.std.specs.Prelude.{◌≡◌, ◌++◌, IfOk, List, Some, codes, map};
 ghost use Rattle.std.specs.String.{string_bytes};
 ghost use Rattle.ioa_value.specs.Actions.{act_of};
-ghost use Rattle.ioa_tree.specs.Compositions.{Composed};
 ghost use Rattle.ioa_tree.specs.Hosts.{HostState, Hosted, host_starts, hosts_of};
 ghost use Rattle.ioa_tree.specs.Likes.{AllRelated};
 ghost use Rattle.ioa_tree.specs.Meaning.{Env};
@@ -11,9 +10,10 @@ ghost use Rattle.ioa_tree.specs.Runs.{run};
 ghost use Rattle.ioa_compose.specs.Held.{composed_of};
 ghost use Rattle.ioa_compose.specs.Simulates.{SlotsHoldAt, Simulates};
 ghost use Rattle.ioa_compile.specs.Implements.{Implements};
+ghost use Rattle.ioa_compile.specs.Subjects.{RunsAs, Subject, its_components};
 ghost use Rattle.ioa_compile.specs.Tables.{tabled};
 ghost use Rattle.ioa_system.specs.Outcomes.{ending_of};
-ghost use Rattle.ioa_system.specs.Records.{IsHostRun, IsTableRun};
+ghost use Rattle.ioa_system.specs.Records.{IsRunAs};
 ghost use Rattle.ioa_system.specs.Systems.{slot_types, types_of, values_of};
 ghost use Rattle.ioa_account.specs.Accounts as spec;
 ghost use Rattle.ioa_account.specs.Ends.{component_in, index_in, owner_at};
@@ -86,9 +86,9 @@ fn tell(
     index: usize,
 ) -> Result<Account, OutOfMemory>
     requires means { Implements program.now (composed_of composition.now) }
-    requires run { IsTableRun program.now (map act_of actions.now) reached.now }
+    requires run { (s : Subject) → RunsAs program.now s → IsRunAs program.now s (map act_of actions.now) reached.now }
     requires index { index_in (ending_of reached.now.end) ≡ Some index }
-    ensures told { IfOk result (λ told. (h : Hosted) → Simulates h (composed_of composition.now) → IsHostRun h (map act_of actions.now) reached.now
+    ensures told { IfOk result (λ told. (h : Hosted) → Simulates h (composed_of composition.now)
         → AccountsFor h (map act_of actions.now) (run (hosts_of h) (map act_of actions.now) (host_starts h)) told) }
     ensures line { IfOk result (λ told. told.line ≡ spec.line_of composition.now.members (map act_of actions.now) told.index told.component) }
 {
@@ -118,7 +118,7 @@ fn tell(
 
 /// The number of the component that stops the run.
 fn component_of(program: &Program, actions: &[Action], end: End) -> Option<usize>
-    ensures { (h : Hosted) (c : Composed) → Simulates h c → Implements program.now c → result ≡ component_in (hosts_of h) (map act_of actions.now) (ending_of end) }
+    ensures { (s : Subject) → RunsAs program.now s → result ≡ component_in (its_components s) (map act_of actions.now) (ending_of end) }
 {
     match end {
         End::Done(_) | End::NotAnAction(_) => None,
@@ -129,7 +129,7 @@ fn component_of(program: &Program, actions: &[Action], end: End) -> Option<usize
 
 /// The number of the component that has the action of this index as output or internal.
 fn owner_at(program: &Program, actions: &[Action], index: usize) -> Option<usize>
-    ensures { (h : Hosted) (c : Composed) → Simulates h c → Implements program.now c → result ≡ owner_at (hosts_of h) (map act_of actions.now) index }
+    ensures { (s : Subject) → RunsAs program.now s → result ≡ owner_at (its_components s) (map act_of actions.now) index }
 {
     match actions.get(index) {
         Some(action) => owner(program, action),

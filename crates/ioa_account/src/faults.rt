@@ -8,7 +8,7 @@ ghost use Rattle.ioa_tree.specs.Meaning.{Env};
 ghost use Rattle.ioa_compose.specs.Held.{composed_of};
 ghost use Rattle.ioa_compose.specs.Simulates.{SlotsHoldAt, Simulates};
 ghost use Rattle.ioa_system.specs.Systems.{values_of};
-ghost use Rattle.ioa_log.specs.Breaking.{AreStates, IsState};
+ghost use Rattle.ioa_inspect.specs.Breaking.{AreStates, IsState};
 ghost use Rattle.ioa_account.specs.Faults as spec;
 
 use ioa_compose::Composition;

@@ -36,8 +36,9 @@ use Rattle.ioa_tree.specs.Likes.{AreLike}
 use Rattle.ioa_tree.specs.WellFormed.{Context, contains, local_names, parameter_names, variable_fields, context_of, held, scope, is_input, type_of}
 use Rattle.ioa_tree.proofs.Domains.{domains_have}
 use Rattle.ioa_tree.proofs.ValTyped.{val_typed}
-use Rattle.ioa_compose.specs.Fine.{IsFine, component_limits}
-use Rattle.ioa_compose.proofs.SpelledNames.{or_none}
+use Rattle.ioa_compose.specs.Fine.{IsFine}
+use Rattle.ioa_crash.specs.Limits.{component_limits}
+use Rattle.ioa_crash.proofs.SpelledNames.{or_none}
 use Rattle.ioa_code.specs.declared.instr.PartKind.TheVariants.{Pre, Propose, Eff}
 use Rattle.ioa_compile.specs.Programs.{EntryCode, MemberCode}
 use Rattle.ioa_compile.specs.Tables.{HasLocal, allows, entry_of, table_component, position_types, parameter_types}

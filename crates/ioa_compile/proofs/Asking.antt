@@ -21,8 +21,9 @@ use Rattle.ioa_tree.specs.Invariants.{holds, is_true}
 use Rattle.ioa_tree.specs.Compositions.{Composed, Member}
 use Rattle.ioa_tree.specs.WellFormed.{type_of, has_ty, held, scope, variable_fields}
 use Rattle.ioa_tree.proofs.FineParts.{fine_parts, within_parts}
-use Rattle.ioa_compose.specs.Fine.{IsFine, component_limits}
-use Rattle.ioa_compose.proofs.SpelledNames.{or_none}
+use Rattle.ioa_compose.specs.Fine.{IsFine}
+use Rattle.ioa_crash.specs.Limits.{component_limits}
+use Rattle.ioa_crash.proofs.SpelledNames.{or_none}
 use Rattle.ioa_compose.specs.Questions.{OfThese}
 use Rattle.ioa_compile.specs.Asking.{AreAsked, AskAll, Asks, IsStateOf}
 use Rattle.ioa_compile.specs.CodeEnds.{GuardEnds}

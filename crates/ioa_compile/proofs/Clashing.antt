@@ -8,10 +8,10 @@ use Rattle.ioa_value.specs.Positions.{IsDomain}
 use Rattle.ioa_value.specs.Table.{Table, distinct}
 use Rattle.ioa_value.proofs.ItemLemmas.{get_map}
 use Rattle.ioa_tree.specs.Components.{Component, Compatible}
-use Rattle.ioa_compose.specs.declared.clashes.Clash.{Clash}
-use Rattle.ioa_compose.specs.Clashes as compared
-use Rattle.ioa_compose.specs.Clashes.{AreFirstToClash, SignedEntry, signed_has, signed_component, signed_components, IsSignature}
-use Rattle.ioa_compose.proofs.CompatibleLemmas.{HaveSameKinds, compatible-like, first-like}
+use Rattle.ioa_clash.specs.declared.clashes.Clash.{Clash}
+use Rattle.ioa_clash.specs.Clashes as compared
+use Rattle.ioa_clash.specs.Clashes.{AreFirstToClash, SignedEntry, signed_has, signed_component, signed_components, IsSignature}
+use Rattle.ioa_clash.proofs.CompatibleLemmas.{HaveSameKinds, compatible-like, first-like}
 use Rattle.ioa_compile.specs.Programs.{EntryCode, MemberCode}
 use Rattle.ioa_compile.specs.Tables.{is_in, table_component, AreEntries, IsMember, AreMembers}
 use Rattle.ioa_compile.specs.Clashes.{signed_entry, signature_in, IsFirstClash}

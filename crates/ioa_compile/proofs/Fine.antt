@@ -28,7 +28,8 @@ use Rattle.ioa_tree.specs.WellFormed.{Context, type_in, type_of, types_of_all, i
 use Rattle.ioa_tree.proofs.FineParts.{FineParts, fine_parts, EntryParts, entry_parts, within_parts}
 use Rattle.ioa_tree.proofs.Domains.{domains_are}
 use Rattle.ioa_tree.proofs.ValTyped.{type_of_one, types_of_both, types_of_row}
-use Rattle.ioa_compose.specs.Fine.{IsFine, component_limits}
+use Rattle.ioa_compose.specs.Fine.{IsFine}
+use Rattle.ioa_crash.specs.Limits.{component_limits}
 use Rattle.ioa_compile.specs.Scopes.{Scope, within, scope_of, Origin, on_stack, slot, formal, parameter, fixed, unknown, origin, IsOrigin, IsKnown, AreAllKnown, IsKnownStmt, AreKnown, AreKnownArms, IsKnownGuard, IsScope, place_of}
 use Rattle.ioa_compile.specs.Emitting.{guard_nodes}
 use Rattle.ioa_compile.specs.Matching.{AreTypesOf}

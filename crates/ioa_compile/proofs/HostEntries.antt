@@ -10,9 +10,9 @@ use Rattle.ioa_tree.specs.Meaning.{Env}
 use Rattle.ioa_tree.specs.Hosts.{HostState, Host}
 use Rattle.ioa_tree.specs.Proposing.{Words, proposed}
 use Rattle.ioa_tree.specs.WellFormed.{variable_fields}
-use Rattle.ioa_compose.specs.Rewriting.{signals, with_signals}
+use Rattle.ioa_crash.specs.Rewriting.{signals, with_signals}
 use Rattle.ioa_compose.specs.Simulates.{SlotsHold, IsMadeOf}
-use Rattle.ioa_compose.proofs.SignatureLemmas.{zip-at, zip-to}
+use Rattle.ioa_clash.proofs.ZipLemmas.{zip-at, zip-to}
 use Rattle.ioa_compile.specs.CodeEnds.{ProposalEnds}
 use Rattle.ioa_compile.specs.Correspondence.{Corresponds}
 use Rattle.ioa_compile.specs.Hosts.{EntriesAreTheHosts}

@@ -9,7 +9,8 @@ use Rattle.ioa_tree.specs.Instances.{component_of, state_of}
 use Rattle.ioa_tree.specs.Compositions.{Member}
 use Rattle.ioa_tree.specs.Likes.{IsLike, AllLike, AllRelated}
 use Rattle.ioa_tree.specs.WellFormed.{variable_fields}
-use Rattle.ioa_compose.specs.Fine.{IsFine, component_limits}
+use Rattle.ioa_compose.specs.Fine.{IsFine}
+use Rattle.ioa_crash.specs.Limits.{component_limits}
 use Rattle.ioa_compile.specs.Programs.{EntryCode, MemberCode}
 use Rattle.ioa_compile.specs.Tables.{table_component}
 use Rattle.ioa_compile.specs.Correspondence.{Corresponds, CorrespondsIn, CorrespondsAt}

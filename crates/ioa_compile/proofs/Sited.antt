@@ -6,7 +6,7 @@ use Rattle.std.proofs.lemmas.Bool.{and_parts}
 use Rattle.std.proofs.lemmas.Slice.Eq.{bytes_eq-Decides}
 use Rattle.ioa_value.specs.Actions.{Name}
 use Rattle.ioa_tree.specs.WellFormed.{contains, distinct}
-use Rattle.ioa_compose.specs.Index.{named_among}
+use Rattle.ioa_clash.specs.Index.{named_among}
 use Rattle.ioa_compile.proofs.Finds.{contains_at}
 use Rattle.ioa_compile.proofs.Looks.{not_true}
 

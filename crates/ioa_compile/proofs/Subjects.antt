@@ -18,7 +18,7 @@ use Rattle.ioa_tree.specs.Steps.{owner, participants, step}
 use Rattle.ioa_tree.specs.WellFormed.{variable_fields}
 use Rattle.ioa_tree.proofs.Simulation.{external_like, owner_like, participants_like, run_like, step_like, trace_like}
 use Rattle.ioa_compose.specs.Simulates.{IsMadeOf, Simulates, SlotsHold, SlotsHoldAt, StandsAt, StandsFor}
-use Rattle.ioa_compose.proofs.RewrittenNames.{fit_length}
+use Rattle.ioa_crash.proofs.RewrittenNames.{fit_length}
 use Rattle.ioa_compile.specs.Correspondence.{CorrespondsAt, CorrespondsIn}
 use Rattle.ioa_compile.specs.Implements.{Implements}
 use Rattle.ioa_compile.specs.Matching.{MatchesMember}

@@ -22,7 +22,8 @@ use Rattle.ioa_tree.specs.Instances.{positions_have, entry_has, component_of}
 use Rattle.ioa_tree.specs.Components.{Compatible, is_output}
 use Rattle.ioa_tree.specs.Compositions.{Member, Composed, has_output, instances_of, is_output_of}
 use Rattle.ioa_tree.specs.WellFormed.{distinct, variable_fields}
-use Rattle.ioa_compose.specs.Fine.{IsFine, AreOver, IsSound, component_limits}
+use Rattle.ioa_compose.specs.Fine.{IsFine, AreOver, IsSound}
+use Rattle.ioa_crash.specs.Limits.{component_limits}
 use Rattle.ioa_compile.specs.Programs.{EntryCode, MemberCode, Prog}
 use Rattle.ioa_compile.specs.Tables as programs
 use Rattle.ioa_compile.specs.Tables.{is_in, table_component, position_types, parameter_types, HasLocal, IsPart, IsPartOf, IsEntry, AreEntries, IsMember, AreMembers, IsProgram}
@@ -33,8 +34,8 @@ use Rattle.ioa_compile.specs.Translated.{IsGuard, IsProposing, IsFor, codes_of, 
 use Rattle.ioa_compile.proofs.Fine.{small_of, few_positions_of, domains_of, entry_of}
 use Rattle.ioa_tree.proofs.Domains.{domains_have}
 use Rattle.ioa_tree.proofs.FineParts.{fine_parts, within_parts}
-use Rattle.ioa_compose.proofs.QuestionLemmas.{all_found}
-use Rattle.ioa_compose.proofs.CompatibleLemmas.{HaveSameKinds, compatible-like}
+use Rattle.ioa_clash.proofs.ZipLemmas.{all_found}
+use Rattle.ioa_clash.proofs.CompatibleLemmas.{HaveSameKinds, compatible-like}
 use Rattle.ioa_compile.proofs.Fits.{types_long, variables_names}
 use Rattle.ioa_compile.proofs.Paired.{paired_map, paired_any, any_seen, all_same}
 use Rattle.ioa_compile.proofs.Parameters.{domains_long}

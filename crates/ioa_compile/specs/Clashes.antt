@@ -1,7 +1,7 @@
 -- Which components of a program clash.
 use Rattle.std.specs.Prelude.{◌≡◌, List, map, Some, slice_get}
-use Rattle.ioa_compose.specs.declared.clashes.Clash.{Clash}
-use Rattle.ioa_compose.specs.Clashes.{AreFirstToClash, SignedEntry}
+use Rattle.ioa_clash.specs.declared.clashes.Clash.{Clash}
+use Rattle.ioa_clash.specs.Clashes.{AreFirstToClash, SignedEntry}
 use Rattle.ioa_compile.specs.Programs.{EntryCode, MemberCode}
 use Rattle.ioa_compile.specs.Tables.{table_component}
 

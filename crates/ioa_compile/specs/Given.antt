@@ -2,7 +2,7 @@
 use Rattle.std.specs.Prelude.{map}
 use Rattle.std.specs.String.{string_bytes}
 use Rattle.ioa_value.specs.Actions.{Name}
-use Rattle.ioa_compose.specs.Clashes.{AreFirstToClash}
+use Rattle.ioa_clash.specs.Clashes.{AreFirstToClash}
 use Rattle.ioa_compile.specs.declared.tables.TableErr.{TableErr}
 use Rattle.ioa_compile.specs.declared.tables.TableErr.TheVariants as errors
 use Rattle.ioa_compile.specs.declared.tables.Tables as held

@@ -18,7 +18,7 @@ use Rattle.ioa_tree.specs.declared.tree.Entry as tree
 use Rattle.ioa_tree.specs.View.{entry_of}
 use Rattle.ioa_compose.specs.declared.member.Member as held
 use Rattle.ioa_compose.specs.Held.{member_of}
-use Rattle.ioa_compose.specs.Fine.{component_limits}
+use Rattle.ioa_crash.specs.Limits.{component_limits}
 
 -- the names that code may use: those of the loops round it, the innermost first, each with the type of its items, variables, formals with
 -- their values, the parameters among positions, and those of the types; and the types of what they stand for outside of loops

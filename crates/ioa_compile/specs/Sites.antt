@@ -3,8 +3,8 @@ use Rattle.std.specs.Prelude.{ℕ, Bool, not, ◌&&◌, List, Some, map}
 use Rattle.ioa_value.specs.Actions.{Name}
 use Rattle.ioa_value.specs.Table.{contains}
 use Rattle.ioa_tree.specs.Components.{is_output}
-use Rattle.ioa_compose.specs.Index.{IsIndexOf, named_in}
-use Rattle.ioa_compose.specs.declared.index.Index.{Index}
+use Rattle.ioa_clash.specs.Index.{IsIndexOf, named_in}
+use Rattle.ioa_clash.specs.declared.index.Index.{Index}
 use Rattle.ioa_compile.specs.declared.sites.Site.{Site}
 use Rattle.ioa_compile.specs.Programs.{EntryCode, MemberCode, Prog}
 

@@ -20,7 +20,7 @@ use Rattle.ioa_tree.specs.declared.tree.Kind.{Kind}
 use Rattle.ioa_tree.specs.declared.tree.Kind.TheVariants.{Input, Output, Internal}
 use Rattle.ioa_tree.specs.Components.{Component, Compatible, is_output}
 use Rattle.ioa_tree.specs.WellFormed.{distinct}
-use Rattle.ioa_compose.specs.Fine.{component_limits}
+use Rattle.ioa_crash.specs.Limits.{component_limits}
 use Rattle.ioa_compile.specs.declared.limits.TheConstants.{MOST_PLACES}
 use Rattle.ioa_compile.specs.Programs.{EntryCode, MemberCode, Prog}
 

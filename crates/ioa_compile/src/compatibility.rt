@@ -3,7 +3,7 @@
 ghost use Rattle.std.specs.Prelude.{◌≡◌, ◌↔◌, map, None, IfOk, IfSome};
 ghost use Rattle.ioa_value.specs.Table.{AreTypes};
 ghost use Rattle.ioa_tree.specs.Components.{Compatible};
-ghost use Rattle.ioa_compose.specs.Clashes.{signature_of};
+ghost use Rattle.ioa_clash.specs.Clashes.{signature_of};
 ghost use Rattle.ioa_compile.specs.Clashes.{signed_entry, signature_in, IsFirstClash};
 ghost use Rattle.ioa_compile.specs.Shown.{entry_code, member_code};
 ghost use Rattle.ioa_compile.specs.Tables.{AreMembers, table_component};

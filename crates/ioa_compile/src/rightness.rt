@@ -9,7 +9,7 @@ ghost use Rattle.ioa_value.specs.Positions.{IsDomain, domain_of};
 ghost use Rattle.ioa_value.specs.Table.{AreTypes, all_names, contains, distinct};
 ghost use Rattle.ioa_value.specs.declared.limits.TheConstants.{LIMITS as most};
 ghost use Rattle.ioa_code.specs.declared.instr.PartKind.TheVariants as kinds;
-ghost use Rattle.ioa_compose.specs.Fine.{component_limits};
+ghost use Rattle.ioa_crash.specs.Limits.{component_limits};
 ghost use Rattle.ioa_compile.specs.Given.{prog_of};
 ghost use Rattle.ioa_compile.specs.Shown.{entry_code, member_code};
 ghost use Rattle.ioa_compile.specs.Tables.{AreFew, AreRight, AreMembers, AreEntries, IsMember, IsEntry, IsPart, IsPartOf, HasLocal, HasPre, HasPropose, have_output, is_output_of};

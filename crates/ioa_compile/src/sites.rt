@@ -2,7 +2,7 @@
 
 ghost use Rattle.std.specs.Prelude.{◌≡◌, map, IfOk, OnOk};
 ghost use Rattle.std.specs.String.{string_bytes};
-ghost use Rattle.ioa_compose.specs.Index.{AddsAll};
+ghost use Rattle.ioa_clash.specs.Index.{AddsAll};
 ghost use Rattle.ioa_compile.specs.Shown.{entry_code, member_code};
 ghost use Rattle.ioa_compile.specs.Sites as spec;
 ghost use Rattle.ioa_compile.specs.Sites.{AreSites, code_name, site_of};

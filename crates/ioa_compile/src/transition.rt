@@ -8,7 +8,7 @@ ghost use Rattle.ioa_code.specs.Parts.{listing};
 ghost use Rattle.ioa_tree.specs.View.{expr_of, stmts_of, entry_of, transition_of, position_of, proposal_of};
 ghost use Rattle.ioa_tree.specs.WellFormed.{stmts_nodes};
 ghost use Rattle.ioa_value.specs.declared.limits.TheConstants.{LIMITS};
-ghost use Rattle.ioa_compose.specs.Fine.{component_limits};
+ghost use Rattle.ioa_crash.specs.Limits.{component_limits};
 ghost use Rattle.ioa_compile.specs.Scopes.{AreKnown, AreKnownProposals, IsKnownGuard};
 ghost use Rattle.ioa_compile.specs.Emitting.{guard_nodes, proposals_nodes, IsGrown};
 ghost use Rattle.ioa_compile.specs.Translated.{IsGuard, IsProposing, IsEffect, IsTransition};

@@ -12,7 +12,7 @@ use Rattle.ioa_tree.specs.Tree.{FormTree, enumeration, tuple, sequence, TypeTree
 use Rattle.ioa_tree.specs.Types.{numbered, shape_of, declared, with_type, declared_from}
 use Rattle.ioa_tree.specs.Compositions.{compositions}
 use Rattle.ioa_tree.specs.WellFormed.{constants_of, declared_names}
-use Rattle.ioa_compose.proofs.RewrittenFine.{outside}
+use Rattle.ioa_crash.proofs.RewrittenFine.{outside}
 
 -- ---- lists of names
 

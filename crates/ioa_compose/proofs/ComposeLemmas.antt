@@ -28,7 +28,7 @@ use Rattle.ioa_compose.specs.Bindings.{crash_in, plain_in, instance_in, host_in,
 use Rattle.ioa_compose.specs.Fine.{IsSound, IsTyped, AreOver}
 use Rattle.ioa_compose.specs.Held.{member_of}
 use Rattle.ioa_compose.specs.Refusals.{Reason, misfit, faulty, misnamed, clashing, hiding, no_memory, other, reason_of, IsUnbound, IsFirstUnknown, IsRefused, NoneClash, FaultsIn, ClashesIn, HidesIn}
-use Rattle.ioa_compose.specs.Rewriting.{spelled}
+use Rattle.ioa_crash.specs.Rewriting.{spelled}
 use Rattle.ioa_compose.specs.Simulates.{member_for, composed_for, signalled, Simulates}
 use Rattle.ioa_compose.proofs.CompatibleLemmas.{compatible-from}
 use Rattle.ioa_compose.proofs.FineLemmas.{AllBind, all-bound}
@@ -36,7 +36,7 @@ use Rattle.ioa_compose.proofs.HostLemmas.{same_names, same_outputs, typed_for, h
 use Rattle.ioa_compose.proofs.PositionLemmas.{host_of_started}
 use Rattle.ioa_compose.proofs.InvariantLemmas.{invariants-few, hosts-typed}
 use Rattle.ioa_compose.proofs.RefusalLemmas.{unbound-refused, clash-refused, hiding-refused, start-refused}
-use Rattle.ioa_compose.proofs.QuestionLemmas.{all_found}
+use Rattle.ioa_clash.proofs.ZipLemmas.{all_found}
 use Rattle.ioa_compose.proofs.SignalLemmas.{signals_decide}
 use Rattle.ioa_compose.proofs.StandLemmas.{AreSpelled, stands_compatible}
 use Rattle.ioa_compose.proofs.WithSignals.{more_outputs}

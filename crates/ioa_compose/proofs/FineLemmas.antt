@@ -17,7 +17,7 @@ use Rattle.ioa_tree.proofs.FineParts.{fine_parts}
 use Rattle.ioa_compose.specs.declared.binding.Binding.{Binding}
 use Rattle.ioa_compose.specs.Bindings.{crash_in, plain_in, instance_in, Binds, AreBound, StartsWell, AllStartable, AllSound, AllApart, IsOwn, AllOwn, HasPositions, AllPositioned}
 use Rattle.ioa_compose.specs.Refusals.{AllBound}
-use Rattle.ioa_compose.specs.Rewriting.{with_signals, own_automaton}
+use Rattle.ioa_crash.specs.Rewriting.{with_signals, own_automaton}
 use Rattle.ioa_compose.proofs.SourceLemmas.{named_fine}
 use Rattle.ioa_compose.proofs.WithSignals.{positions_fine, own_positions}
 

@@ -15,9 +15,9 @@ use Rattle.ioa_tree.specs.WellFormed.{type_in, typed_field, context_of, held, is
 use Rattle.ioa_tree.proofs.Agreement.{val_same}
 use Rattle.ioa_tree.proofs.TypeAgreement.{type_same}
 use Rattle.ioa_compose.specs.Questions.{first_of}
-use Rattle.ioa_compose.specs.Rewriting.{spelled}
-use Rattle.ioa_compose.proofs.SpelledNames.{not_both, absent}
-use Rattle.ioa_compose.proofs.RewrittenTypes.{in_both, foreign, names_of_fields}
+use Rattle.ioa_crash.specs.Rewriting.{spelled}
+use Rattle.ioa_crash.proofs.SpelledNames.{not_both, absent}
+use Rattle.ioa_crash.proofs.RewrittenTypes.{in_both, foreign, names_of_fields}
 
 -- no text spells the variable's name
 abbrev pub is_added : VariableTree → Bool

@@ -24,19 +24,20 @@ use Rattle.ioa_tree.proofs.Starts.{starts_fit}
 use Rattle.ioa_tree.proofs.FineParts.{fine_parts, within_parts}
 use Rattle.ioa_tree.proofs.TypeAgreement.{type_same}
 use Rattle.ioa_compose.specs.Bindings.{HaveEntries}
-use Rattle.ioa_compose.specs.Rewriting.{spelled, up_variable, signals, rewritten}
-use Rattle.ioa_compose.specs.Crashes.{MayCrash}
-use Rattle.ioa_compose.specs.Fine.{IsFine, AllFine, AreOver, IsTyped, component_limits}
+use Rattle.ioa_crash.specs.Rewriting.{spelled, up_variable, signals, rewritten}
+use Rattle.ioa_crash.specs.Crashes.{MayCrash}
+use Rattle.ioa_compose.specs.Fine.{IsFine, AllFine, AreOver, IsTyped}
+use Rattle.ioa_crash.specs.Limits.{component_limits}
 use Rattle.ioa_compose.specs.Simulates.{member_by, member_for, MayStand, AllNamed, HostsAreSimulated}
 use Rattle.ioa_compose.proofs.FirstVariables.{is_added}
-use Rattle.ioa_compose.proofs.SpelledNames.{all_spelled, or_false}
-use Rattle.ioa_compose.proofs.SpelledTrees.{automaton_spelled}
-use Rattle.ioa_compose.proofs.RewrittenTypes.{held_same}
-use Rattle.ioa_compose.proofs.RewrittenLimits.{within_wider}
-use Rattle.ioa_compose.proofs.CrashLemmas.{means_crash}
-use Rattle.ioa_compose.proofs.StaysLemmas.{stays_fine}
+use Rattle.ioa_crash.proofs.SpelledNames.{all_spelled, or_false}
+use Rattle.ioa_crash.proofs.SpelledTrees.{automaton_spelled}
+use Rattle.ioa_crash.proofs.RewrittenTypes.{held_same}
+use Rattle.ioa_crash.proofs.RewrittenLimits.{within_wider}
+use Rattle.ioa_crash.proofs.CrashLemmas.{means_crash}
+use Rattle.ioa_crash.proofs.StaysLemmas.{stays_fine}
 use Rattle.ioa_compose.proofs.StandLemmas.{AreSpelled, rewriting_stands}
-use Rattle.ioa_compose.proofs.QuestionLemmas.{all_found}
+use Rattle.ioa_clash.proofs.ZipLemmas.{all_found}
 use Rattle.ioa_compose.proofs.SourceLemmas.{named_fine, named_within}
 
 -- ---- names and outputs

@@ -3,7 +3,8 @@ use Rattle.std.proofs.Common.{◌≡◌, ℕ, zero, suc, ◌<◌, List, [], ◌�
 use Rattle.ioa_value.specs.Table.{Table, AreTypes}
 use Rattle.ioa_compose.specs.declared.member.Member.{Member}
 use Rattle.ioa_compose.specs.Held.{member_of}
-use Rattle.ioa_compose.specs.Fine.{IsFine, AllFine, AreOver, component_limits}
+use Rattle.ioa_compose.specs.Fine.{IsFine, AllFine, AreOver}
+use Rattle.ioa_crash.specs.Limits.{component_limits}
 
 pub fine_at : (xs : List Member) (i : ℕ) (x : Member) → AllFine component_limits (map member_of xs) → i < length xs → x ≡ get_or xs i x → IsFine component_limits (member_of x)
 fine_at [] i x h lt e = absurd (omega arith)

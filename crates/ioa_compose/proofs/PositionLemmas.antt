@@ -21,15 +21,15 @@ use Rattle.ioa_tree.proofs.Early.{each_implies}
 use Rattle.ioa_compose.specs.declared.binding.Binding.{Binding}
 use Rattle.ioa_compose.specs.declared.member.Member as held
 use Rattle.ioa_compose.specs.Bindings.{crash_in, host_in, Binds, IsStarted}
-use Rattle.ioa_compose.specs.Crashes.{MayCrash}
+use Rattle.ioa_crash.specs.Crashes.{MayCrash}
 use Rattle.ioa_compose.specs.Held.{member_of, HoldsPositions, AllHoldPositions, KeepsPositions}
-use Rattle.ioa_compose.specs.Rewriting.{spelled, signals, with_signals, crashing}
+use Rattle.ioa_crash.specs.Rewriting.{spelled, signals, with_signals, crashing}
 use Rattle.ioa_compose.specs.Signatures.{domains_in, ArePositionsOf}
 use Rattle.ioa_compose.specs.Simulates.{member_by, MayStand}
 use Rattle.ioa_compose.proofs.FineLemmas.{AllBind}
 use Rattle.ioa_compose.proofs.HostLemmas.{host_may}
-use Rattle.ioa_compose.proofs.RewrittenEntries.{all_flat_at, constant_same}
-use Rattle.ioa_compose.proofs.RewrittenNames.{names}
+use Rattle.ioa_crash.proofs.RewrittenEntries.{all_flat_at, constant_same}
+use Rattle.ioa_crash.proofs.RewrittenNames.{names}
 use Rattle.ioa_compose.proofs.WithSignals.{own_entries}
 
 -- a text can spell the names in the entry's positions

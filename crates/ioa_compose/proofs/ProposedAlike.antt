@@ -15,12 +15,12 @@ use Rattle.ioa_tree.specs.Instances.{Instance, formal_values, transition_for}
 use Rattle.ioa_tree.specs.Proposing.{Words, Tried, idle, parameters, proposed}
 use Rattle.ioa_tree.specs.Hosts.{HostState}
 use Rattle.ioa_tree.proofs.TryAgreement.{parameters_same}
-use Rattle.ioa_compose.specs.Rewriting.{spelled, guarded, crashing}
-use Rattle.ioa_compose.specs.Crashes.{Corresponds, MayCrash}
-use Rattle.ioa_compose.proofs.SpelledTrees.{parts_spelled}
-use Rattle.ioa_compose.proofs.RewrittenNames.{names, formals_same}
-use Rattle.ioa_compose.proofs.RewrittenEntries.{entry_names, all_others, signals_apart, others_found}
-use Rattle.ioa_compose.proofs.SpelledNames.{other_way}
+use Rattle.ioa_crash.specs.Rewriting.{spelled, guarded, crashing}
+use Rattle.ioa_crash.specs.Crashes.{Corresponds, MayCrash}
+use Rattle.ioa_crash.proofs.SpelledTrees.{parts_spelled}
+use Rattle.ioa_crash.proofs.RewrittenNames.{names, formals_same}
+use Rattle.ioa_crash.proofs.RewrittenEntries.{entry_names, all_others, signals_apart, others_found}
+use Rattle.ioa_crash.proofs.SpelledNames.{other_way}
 
 -- an entry does not have a name that none of them has
 other_at : (es : List EntryTree) (k : ℕ) (e : EntryTree) (x : Name) → slice_get es k ≡ Some e → contains (entry_names es) x ≡ false → bytes_eq x e.name ≡ false

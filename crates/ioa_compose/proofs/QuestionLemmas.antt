@@ -1,11 +1,10 @@
 -- What is asked of a composition, over what it holds.
-use Rattle.std.proofs.Common.{◌≡◌, ℕ, zero, suc, ◌<◌, length, get_or, All, true, List, [], ◌∷◌, ◌++◌, map, take, Some, Result, Ok, Err, IfOk, sym, ap, subst, ◌∙◌}
+use Rattle.std.proofs.Common.{◌≡◌, ℕ, ◌<◌, length, get_or, true, List, [], ◌∷◌, ◌++◌, map, take, Some, Result, Ok, Err, IfOk, sym, ap, subst, ◌∙◌}
 use Rattle.std.specs.Prelude.{slice_get}
 use Rattle.std.specs.List.{list_all}
 use Rattle.std.specs.Str.{bytes_eq}
 use Rattle.std.proofs.lemmas.Option.{slice_get_within}
 use Rattle.std.proofs.lemmas.List.{length-map}
-use Rattle.std.proofs.lemmas.List.Elements.{All-head, All-tail}
 use Rattle.ioa_value.specs.declared.memory.OutOfMemory.{OutOfMemory}
 use Rattle.ioa_value.specs.Operators.{Answer}
 use Rattle.ioa_value.specs.Plain.{Val}
@@ -20,21 +19,18 @@ use Rattle.ioa_tree.specs.WellFormed.{variable_fields, held as held_names, has_t
 use Rattle.ioa_tree.specs.Compositions as compositions
 use Rattle.ioa_compose.specs.declared.member.Member.{Member}
 use Rattle.ioa_compose.specs.Held.{Held, member_of, composed_of}
-use Rattle.ioa_compose.specs.Fine.{IsFine, IsSound, component_limits}
-use Rattle.ioa_compose.specs.Rewriting.{spelled}
+use Rattle.ioa_compose.specs.Fine.{IsFine, IsSound}
+use Rattle.ioa_crash.specs.Limits.{component_limits}
+use Rattle.ioa_crash.specs.Rewriting.{spelled}
 use Rattle.ioa_compose.specs.Questions.{OfThese, first_of, IsQuestion, IsAnswerable}
+use Rattle.ioa_clash.proofs.ZipLemmas.{all_found}
 use Rattle.ioa_compose.proofs.MemberLemmas.{fine_at, declared_at}
 use Rattle.ioa_compose.proofs.FirstVariables.{typed_front, val_front}
-use Rattle.ioa_compose.proofs.RewrittenNames.{fit_length}
+use Rattle.ioa_crash.proofs.RewrittenNames.{fit_length}
 
 -- a place that has an item is within the list
 within : {X Y : Type 0} (f : X → Y) (xs : List X) (i : ℕ) (y : Y) → slice_get (map f xs) i ≡ Some y → i < length xs
 within f xs i y e = subst (λ n. i < n) (length-map xs f) (slice_get_within (map f xs) i y e)
-
-pub all_found : {X : Type 0} (P : X → Type 0) (xs : List X) (i : ℕ) (x : X) → All P xs → slice_get xs i ≡ Some x → P x
-all_found P [] i x h e = absurd (cc)
-all_found P (y ∷ ys) zero x h e = let same : y ≡ x = cc in subst P same (All-head P y ys h)
-all_found P (y ∷ ys) (suc i) x h e = all_found P ys i x (All-tail P y ys h) e
 
 module _ (h : Held) (i k : ℕ) (values : List Val) (q : IsQuestion (composed_of h) i k values) (m : Member) (v : Invariant)
     (e : m ≡ get_or h.members i m) (at : v ≡ get_or h.invariants k v) where

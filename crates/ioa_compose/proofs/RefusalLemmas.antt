@@ -17,7 +17,7 @@ use Rattle.ioa_tree.specs.Instances.{Instance, Fit, start_values, component_of}
 use Rattle.ioa_tree.specs.Compositions.{has_output, is_output_of, picked}
 use Rattle.ioa_tree.specs.Hosts.{crash_fine, Host, Hosted, IsHost, AreHosts, IsHosted, host_instances}
 use Rattle.ioa_compose.specs.Bindings.{instance_with, IsBound, AreBound}
-use Rattle.ioa_compose.specs.Rewriting.{with_signals}
+use Rattle.ioa_crash.specs.Rewriting.{with_signals}
 use Rattle.ioa_compose.specs.Simulates.{signalled}
 use Rattle.ioa_compose.specs.Refusals.{Clashing, ClashOn, Reason, misfit, faulty, misnamed, clashing, hiding, no_memory, other, reason_of, IsUnbound, IsRefusedFor, IsRefused, NoClashBefore, NoClash, IsFirstFault, NoneClashes, NoneClash, NoneFaults, FaultsIn, ClashesIn, HidesIn, TellsClash}
 use Rattle.ioa_value.proofs.ItemLemmas.{all_at}

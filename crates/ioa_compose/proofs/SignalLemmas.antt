@@ -13,9 +13,9 @@ use Rattle.ioa_tree.specs.Tree.{CrashTree, ConstantTree, positive, negative, tru
 use Rattle.ioa_tree.specs.Instances.{Instance, constant_value, position_has, positions_have, entry_has, entry_for, component_of}
 use Rattle.ioa_tree.specs.Hosts.{is_signal, hosted, crash_fine, reset_to, Host, host_of, hosts_of}
 use Rattle.ioa_tree.proofs.Alike.{SameKinds, kinds_back, same_compatible}
-use Rattle.ioa_compose.specs.Rewriting.{signal_entry, signals, with_signals}
+use Rattle.ioa_crash.specs.Rewriting.{signal_entry, signals, with_signals}
 use Rattle.ioa_compose.specs.Simulates.{signalled, AllNamed, SignalsDecide}
-use Rattle.ioa_compose.proofs.RewrittenEntries.{Apart, apart_of, found_other, not_signal, signal_same}
+use Rattle.ioa_crash.proofs.RewrittenEntries.{Apart, apart_of, found_other, not_signal, signal_same}
 
 module _ (n : CrashTree) (i : Instance) (free : crash_fine (Some n) i.automaton ≡ true) where
   abbrev more : Instance

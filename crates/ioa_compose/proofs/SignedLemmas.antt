@@ -19,16 +19,17 @@ use Rattle.ioa_tree.specs.WellFormed.{position_fine, formals, distinct, automato
 use Rattle.ioa_tree.proofs.Domains.{domains_have, domains_are}
 use Rattle.ioa_tree.proofs.FineParts.{fine_parts}
 use Rattle.ioa_compose.specs.declared.binding.Binding.{Binding}
-use Rattle.ioa_compose.specs.declared.clashes.Clash.{Clash}
-use Rattle.ioa_compose.specs.declared.clashes.SignedEntry as lent
+use Rattle.ioa_clash.specs.declared.clashes.Clash.{Clash}
+use Rattle.ioa_clash.specs.declared.clashes.SignedEntry as lent
 use Rattle.ioa_compose.specs.Bindings.{crash_in, plain_in, instance_in, IsStartable, AllSound, AllStartable, AllApart, IsOwn, AllOwn, HasPositions, AllPositioned}
-use Rattle.ioa_compose.specs.Clashes.{AreClashing, SignedEntry, signature_of, signed_has, signed_component, signed_components, IsSignature, IsFirstClash}
+use Rattle.ioa_clash.specs.Clashes.{AreClashing, SignedEntry, signature_of, signed_has, signed_component, signed_components, IsSignature, IsFirstClash}
 use Rattle.ioa_compose.specs.Signatures.{domains_in, ArePositionsOf, IsSigned, IsSignatureOf, signed_entries, signature_in}
 use Rattle.ioa_compose.specs.Refusals.{NoneClash, IsFirstEntry, ClashesIn, clashing}
-use Rattle.ioa_compose.proofs.ClashLemmas.{place-once}
-use Rattle.ioa_compose.proofs.CompatibleLemmas.{HaveSameKinds, compatible-like, first-like, clashing-like, none-from, between}
+use Rattle.ioa_clash.proofs.ClashLemmas.{place-once}
+use Rattle.ioa_clash.proofs.CompatibleLemmas.{HaveSameKinds, compatible-like, first-like, clashing-like, between}
+use Rattle.ioa_compose.proofs.CompatibleLemmas.{none-from}
 use Rattle.ioa_compose.proofs.WithSignals.{positions_fine, PositionsFine, more_formals, more_names, more_positions, all_signed, own_entries}
-use Rattle.ioa_compose.proofs.SignatureLemmas.{zip-at, zip-to, same-item}
+use Rattle.ioa_clash.proofs.ZipLemmas.{zip-at, zip-to, same-item}
 
 -- an instance over these types: entries of different names, with fine positions, and arguments of the formals' types
 record IsKnown (types : Table) (m : Instance) : Type 0 where

@@ -29,16 +29,16 @@ use Rattle.ioa_tree.specs.Hosts.{HostState, host_state, when_ok, steady, hosted,
 use Rattle.ioa_tree.proofs.Agreement.{val_same}
 use Rattle.ioa_tree.proofs.Alike.{like_kinds, kinds_back, same_compatible, first_like}
 use Rattle.ioa_tree.proofs.Simulation.{run_like, trace_like, owner_like, participants_like, external_like}
-use Rattle.ioa_compose.specs.Rewriting.{spelled, up_name, up_variable, signals, guarded, proposing, added_proposals, added_variables, crash_transition, recover_transition, rewritten, crashing}
+use Rattle.ioa_crash.specs.Rewriting.{spelled, up_name, up_variable, signals, guarded, proposing, added_proposals, added_variables, crash_transition, recover_transition, rewritten, crashing}
 use Rattle.ioa_compose.specs.Simulates.{StandsBy, StandsFor, StandsAt, member_by, member_for, MayStand, TellsUp, SlotsHold, HoldsWith, IsMadeBy, IsMadeOf, HoldsAlike, has_kind, Simulates, RewritingSimulates, HeldWith}
-use Rattle.ioa_compose.proofs.SpelledNames.{absent, all_of, none_unspelled, unspelled}
-use Rattle.ioa_compose.proofs.SpelledTrees.{automaton_spelled}
+use Rattle.ioa_crash.proofs.SpelledNames.{absent, all_of, none_unspelled, unspelled}
+use Rattle.ioa_crash.proofs.SpelledTrees.{automaton_spelled}
 use Rattle.ioa_compose.proofs.FirstVariables.{is_added, values_before}
-use Rattle.ioa_compose.proofs.QuestionLemmas.{all_found}
-use Rattle.ioa_compose.proofs.RewrittenEntries.{entry_same}
-use Rattle.ioa_compose.proofs.RewrittenNames.{names, formals_same}
+use Rattle.ioa_clash.proofs.ZipLemmas.{all_found}
+use Rattle.ioa_crash.proofs.RewrittenEntries.{entry_same}
+use Rattle.ioa_crash.proofs.RewrittenNames.{names, formals_same}
 use Rattle.ioa_compose.proofs.ProposedAlike.{proposed_alike}
-use Rattle.ioa_compose.proofs.CrashLemmas.{means_crash}
+use Rattle.ioa_crash.proofs.CrashLemmas.{means_crash}
 
 -- ---- relations that say the same
 

@@ -25,11 +25,11 @@ use Rattle.ioa_compose.specs.declared.binding.Binding.{Binding}
 use Rattle.ioa_compose.specs.declared.member.Member as held
 use Rattle.ioa_compose.specs.Bindings.{value_in, crash_in, plain_in, instance_in, instance_with, IsStarted}
 use Rattle.ioa_compose.specs.Held.{member_of}
-use Rattle.ioa_compose.specs.Rewriting.{own_automaton, own_starts, added_arguments, volatile_values, rewritten}
+use Rattle.ioa_crash.specs.Rewriting.{own_automaton, own_starts, added_arguments, volatile_values, rewritten}
 use Rattle.ioa_compose.specs.Simulates.{member_by}
 use Rattle.ioa_compose.specs.Refusals.{NoneFaults}
 use Rattle.ioa_value.proofs.ItemLemmas.{passes_at}
-use Rattle.ioa_compose.proofs.RewrittenNames.{names_of}
+use Rattle.ioa_crash.proofs.RewrittenNames.{names_of}
 use Rattle.ioa_compose.proofs.WithSignals.{more_starts}
 
 pub settled-answer : (r : Result Value Fault) → value_in r ≡ settled (answer_of r)

@@ -18,11 +18,11 @@ use Rattle.ioa_tree.specs.WellFormed.{position_fine, formals, entry_fine, automa
 use Rattle.ioa_tree.proofs.Early.{each_implies}
 use Rattle.ioa_tree.proofs.FineParts.{fine_parts, entry_parts}
 use Rattle.ioa_compose.specs.Bindings.{instance_with}
-use Rattle.ioa_compose.specs.Rewriting.{signals, with_signals, own_automaton}
+use Rattle.ioa_crash.specs.Rewriting.{signals, with_signals, own_automaton}
 use Rattle.ioa_compose.specs.Signatures.{ArePositionsOf}
-use Rattle.ioa_compose.proofs.SpelledNames.{or_false}
-use Rattle.ioa_compose.proofs.RewrittenEntries.{apart_of}
-use Rattle.ioa_compose.proofs.RewrittenFine.{signals_distinct}
+use Rattle.ioa_crash.proofs.SpelledNames.{or_false}
+use Rattle.ioa_crash.proofs.RewrittenEntries.{apart_of}
+use Rattle.ioa_crash.proofs.RewrittenFine.{signals_distinct}
 
 pub more_formals : (o : Option CrashTree) (a : AutomatonTree) → (with_signals o a).formals ≡ a.formals
 more_formals None a = refl

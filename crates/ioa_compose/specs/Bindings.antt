@@ -19,7 +19,7 @@ use Rattle.ioa_tree.specs.Meaning.{Env, val}
 use Rattle.ioa_tree.specs.Instances.{Instance, Fit, settled, argument_values, start_values}
 use Rattle.ioa_tree.specs.Compositions.{Member, automata, automaton_named}
 use Rattle.ioa_tree.specs.WellFormed.{Context, distinct, type_of, start_fine, is_type, variable_fields, automaton_fine}
-use Rattle.ioa_compose.specs.Rewriting.{with_signals, own_automaton}
+use Rattle.ioa_crash.specs.Rewriting.{with_signals, own_automaton}
 use Rattle.ioa_compose.specs.Signatures.{domains_in, ArePositionsOf}
 use Rattle.ioa_compose.specs.Simulates.{member_for}
 use Rattle.ioa_compose.specs.declared.binding.Binding.{Binding}

@@ -13,9 +13,9 @@ use Rattle.ioa_tree.specs.Instances.{Instance, Fit, start_values}
 use Rattle.ioa_tree.specs.Components.{Compatible}
 use Rattle.ioa_tree.specs.Compositions.{Member, Composed, components_of, instances_of, is_output_of}
 use Rattle.ioa_tree.specs.WellFormed.{distinct, variable_fields, held, has_ty, automaton_fine, entry_within, automaton_within}
+use Rattle.ioa_crash.specs.Limits.{component_limits}
 use Rattle.ioa_compose.specs.Questions.{OfThese}
-use Rattle.ioa_compose.specs.Rewriting.{spelled}
-use Rattle.ioa_compose.specs.declared.limits.TheConstants.{COMPONENT_LIMITS}
+use Rattle.ioa_crash.specs.Rewriting.{spelled}
 
 -- the component's name and those of its entries are legal, the automaton has an entry, is well formed and within these limits, but that
 -- an entry has no more positions than in a source, the arguments are of the formals' types, and the start values, of the variables' types,
@@ -45,10 +45,6 @@ AreOver types (m ∷ ms) = (m.instance.types ≡ types) × AreOver types ms
 -- the invariant, if it is of the instance's automaton, is a Bool over its variables and formals
 abbrev pub IsTyped : Instance → InvariantTree → Type 0
 IsTyped n v = IsTrue (bytes_eq v.automaton n.automaton.name) → IsTrue (has_ty n.types n.types (held n.types n.types [] n.automaton) v.condition 0)
-
--- what each component of a composition keeps within
-abbrev pub component_limits : Limits
-component_limits = COMPONENT_LIMITS
 
 -- what a composition keeps: its name is legal and none that a type gives, it has a component, the components have one table of types
 -- and different names, and so have the hidden outputs; and the invariants are well typed, and name what a text can spell

@@ -1,16 +1,11 @@
 pub mod Fine
 pub mod Held
 pub mod Bindings
-pub mod Clashes
 pub mod Signatures
-pub mod Rows
-pub mod Index
 pub mod Refusals
 pub mod Operands
 pub mod Givens
 pub mod Scopes
 pub mod Questions
 pub mod Faults
-pub mod Rewriting
-pub mod Crashes
 pub mod Simulates

@@ -13,7 +13,7 @@ use Rattle.ioa_tree.specs.Instances.{Instance, Fit, argument_values, start_value
 use Rattle.ioa_tree.specs.Compositions.{automaton_named, is_output_of}
 use Rattle.ioa_tree.specs.Hosts.{crash_fine}
 use Rattle.ioa_compose.specs.Bindings.{IsBound, AreBound}
-use Rattle.ioa_compose.specs.Clashes.{AreClashing, Before}
+use Rattle.ioa_clash.specs.Clashes.{AreClashing, Before}
 
 -- the arguments have values, and these are not of the formals' types, one for each
 pub record Misfits (s : SourceTree) (i : InstanceTree) : Type 0 where

@@ -9,7 +9,7 @@ use Rattle.ioa_tree.specs.View.{automaton_of}
 use Rattle.ioa_tree.specs.Instances.{Instance}
 use Rattle.ioa_tree.specs.Domains.{AreDomainsOf}
 use Rattle.ioa_compose.specs.declared.binding.Binding.{Binding}
-use Rattle.ioa_compose.specs.Clashes.{SignedEntry}
+use Rattle.ioa_clash.specs.Clashes.{SignedEntry}
 
 -- positions without the memory that holds them
 abbrev pub domains_in : Vec Position Global → List Domain

@@ -16,8 +16,8 @@ use Rattle.ioa_tree.specs.Invariants.{holds, broken_at}
 use Rattle.ioa_tree.specs.Likes.{AllLike, AllRelated}
 use Rattle.ioa_tree.specs.Hosts.{HostState, crash_fine, Host, Hosted, IsHosted, hosts_of, host_starts, host_instances, broken_hosts}
 use Rattle.ioa_tree.specs.WellFormed.{WellFormed}
-use Rattle.ioa_compose.specs.Rewriting.{spelled, proposing, added_proposals, added_arguments, added_variables, crashing, crashing_starts, with_signals}
-use Rattle.ioa_compose.specs.Crashes.{Corresponds, MayCrash}
+use Rattle.ioa_crash.specs.Rewriting.{spelled, proposing, added_proposals, added_arguments, added_variables, crashing, crashing_starts, with_signals}
+use Rattle.ioa_crash.specs.Crashes.{Corresponds, MayCrash}
 
 -- a state of a host and a state of the component that stands for it
 abbrev pub StandsBy : Option CrashTree → AutomatonTree → HostState Env → Env → Type 0

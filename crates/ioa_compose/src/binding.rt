@@ -16,13 +16,12 @@ ghost use Rattle.ioa_tree.specs.Compositions as spec;
 ghost use Rattle.ioa_tree.specs.WellFormed.{WellFormed};
 ghost use Rattle.ioa_compose.specs.Bindings.{IsReady, AllReady, Binds, fit, closed, values_in};
 ghost use Rattle.ioa_compose.specs.Refusals.{IsUnbound, IsRefusedAt, reason_of};
-ghost use Rattle.ioa_compose.specs.Rewriting as rewriting;
+ghost use Rattle.ioa_crash.specs.Rewriting as rewriting;
 
-use crate::copies::copied_automaton;
 use crate::domains::all_positions;
 use crate::evaluate::evaluate_all;
-use crate::rewriting::rewritten;
 use crate::scope::Scope;
+use ioa_crash::{copied_automaton, rewritten};
 use ioa_rules::automaton_named;
 use ioa_syntax::Refusal;
 use ioa_tree::{Automaton, Crash, Declaration, Expression, Field, Instance, Name};

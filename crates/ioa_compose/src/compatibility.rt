@@ -6,9 +6,8 @@ ghost use Rattle.ioa_compose.specs.Bindings.{plain_in, instance_in, AllSound, Al
 ghost use Rattle.ioa_compose.specs.Refusals.{NoneClash, ClashesIn, reason_of};
 
 use crate::binding::Binding;
-use crate::clashes::{entry_at, first_clash};
-use crate::places::Place;
 use crate::signatures::signatures;
+use ioa_clash::{Place, entry_at, first_clash};
 use ioa_syntax::Refusal;
 use ioa_value::Types;
 use std::alloc::Global;

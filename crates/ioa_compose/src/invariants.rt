@@ -12,11 +12,11 @@ ghost use Rattle.ioa_compose.specs.Givens.{answer_in};
 ghost use Rattle.ioa_compose.specs.Held.{member_of};
 ghost use Rattle.ioa_compose.specs.Questions.{IsAnswerable, first_of};
 
-use crate::copies::copied_invariant;
 use crate::evaluate::evaluate;
 use crate::given::Given;
 use crate::member::Member;
 use crate::scope::Scope;
+use ioa_crash::copied_invariant;
 use ioa_tree::{Declaration, Expression, Invariant};
 use ioa_value::{Fault, OutOfMemory, Value};
 use std::alloc::Global;

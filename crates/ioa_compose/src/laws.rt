@@ -1,17 +1,6 @@
-//! What the rewriting for crashes promises. The functions do nothing: what they say is in their contracts.
+//! What compositions of rewritten components promise. The functions do nothing: what they say is in their contracts.
 
-ghost use Rattle.ioa_compose.specs.Crashes.{RewritingMeansCrash, RewritingStaysFine};
 ghost use Rattle.ioa_compose.specs.Simulates.{HostsAreSimulated, RewritingSimulates, SignalsDecide};
-
-/// The rewritten tree of an automaton means the component that crashes and recovers.
-pub fn rewriting_means_crash()
-    ensures { RewritingMeansCrash }
-{}
-
-/// The rewritten tree is well formed again.
-pub fn rewriting_stays_fine()
-    ensures { RewritingStaysFine }
-{}
 
 /// A composition of rewritten components, and of those that do not crash, does what the hosts do.
 pub fn rewriting_stands()

@@ -7,7 +7,6 @@
 mod composition;
 mod hidden;
 mod invariants;
-mod limits;
 mod member;
 mod picks;
 
@@ -20,27 +19,19 @@ mod scope;
 
 // Instances: automata with their arguments, crashes and start values.
 mod binding;
-mod copies;
-mod rewriting;
 mod starts;
 
 // Compatibility.
-mod clashes;
 mod compatibility;
-mod index;
-mod places;
 mod signatures;
 
 // Laws.
 mod laws;
 
-pub use clashes::{Clash, SignedEntry, first_clash};
 pub use composition::{Composition, compose};
 pub use constants::{constant, empty};
-pub use index::Index;
+pub use ioa_clash::{Clash, Index, SignedEntry, first_clash};
+pub use ioa_crash::{COMPONENT_LIMITS, rewriting_means_crash, rewriting_stays_fine};
 pub use ioa_syntax::Refusal;
-pub use laws::{
-    hosts_stand, rewriting_means_crash, rewriting_stands, rewriting_stays_fine, signals_decide,
-};
-pub use limits::COMPONENT_LIMITS;
+pub use laws::{hosts_stand, rewriting_stands, signals_decide};
 pub use member::Member;

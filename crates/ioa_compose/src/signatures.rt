@@ -3,11 +3,11 @@
 ghost use Rattle.std.specs.Prelude.{◌≡◌, map, IfOk};
 ghost use Rattle.ioa_value.specs.Table.{Table};
 ghost use Rattle.ioa_compose.specs.Bindings.{HasPositions, AllPositioned};
-ghost use Rattle.ioa_compose.specs.Clashes.{signature_of};
+ghost use Rattle.ioa_clash.specs.Clashes.{signature_of};
 ghost use Rattle.ioa_compose.specs.Signatures.{signature_in};
 
 use crate::binding::Binding;
-use crate::clashes::SignedEntry;
+use ioa_clash::SignedEntry;
 use ioa_value::OutOfMemory;
 use std::alloc::Global;
 

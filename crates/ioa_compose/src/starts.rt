@@ -14,8 +14,8 @@ ghost use Rattle.ioa_tree.specs.WellFormed.{start_fine, is_type};
 ghost use Rattle.ioa_compose.specs.Bindings.{value_in, values_in, plain_in, instance_in, host_in, IsStarted, IsOwn, IsStartable, AllStartable, AllOwn};
 ghost use Rattle.ioa_compose.specs.Refusals.{FaultsAt, FaultsIn, reason_of};
 ghost use Rattle.ioa_compose.specs.Held.{member_of, KeepsPositions};
-ghost use Rattle.ioa_compose.specs.Rewriting as spec;
-ghost use Rattle.ioa_compose.specs.Rewriting.{added_arguments, volatile_values};
+ghost use Rattle.ioa_crash.specs.Rewriting as spec;
+ghost use Rattle.ioa_crash.specs.Rewriting.{added_arguments, volatile_values};
 ghost use Rattle.ioa_compose.specs.Simulates.{member_for};
 
 use crate::binding::Binding;

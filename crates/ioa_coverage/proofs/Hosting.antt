@@ -11,9 +11,9 @@ use Rattle.ioa_tree.specs.Hosts.{Host, Hosted}
 use Rattle.ioa_tree.specs.Instances.{entry_has, positions_have}
 use Rattle.ioa_tree.specs.Tree.{CrashTree, EntryTree}
 use Rattle.ioa_tree.proofs.Domains.{domains_have}
-use Rattle.ioa_compose.specs.Rewriting.{signal_entry, signals, with_signals}
+use Rattle.ioa_crash.specs.Rewriting.{signal_entry, signals, with_signals}
 use Rattle.ioa_compose.specs.Simulates.{IsMadeBy, IsMadeOf}
-use Rattle.ioa_compose.proofs.RewrittenEntries.{signal_same}
+use Rattle.ioa_crash.proofs.RewrittenEntries.{signal_same}
 use Rattle.ioa_compile.specs.Matching.{MatchesEntry, MatchesMember}
 use Rattle.ioa_compile.specs.Programs.{EntryCode, MemberCode}
 use Rattle.ioa_compile.specs.Tables.{is_in}

@@ -7,7 +7,7 @@ use Rattle.ioa_value.specs.Actions.{Act, Name}
 use Rattle.ioa_tree.specs.Hosts.{Host, Hosted}
 use Rattle.ioa_tree.specs.Instances.{entry_has}
 use Rattle.ioa_tree.specs.Tree.{EntryTree}
-use Rattle.ioa_compose.specs.Rewriting.{with_signals}
+use Rattle.ioa_crash.specs.Rewriting.{with_signals}
 use Rattle.ioa_compile.specs.Programs.{EntryCode, MemberCode, Prog}
 use Rattle.ioa_compile.specs.Subjects.{Runs}
 use Rattle.ioa_compile.specs.Tables.{is_in}

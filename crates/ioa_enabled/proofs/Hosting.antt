@@ -22,9 +22,9 @@ use Rattle.ioa_tree.specs.Likes.{AllLike, IsLike}
 use Rattle.ioa_tree.specs.Meaning.{Env}
 use Rattle.ioa_tree.specs.Proposing.{Words, proposed}
 use Rattle.ioa_tree.specs.Tree.{AutomatonTree, CrashTree, EntryTree}
-use Rattle.ioa_compose.specs.Rewriting.{signals, with_signals}
+use Rattle.ioa_crash.specs.Rewriting.{signals, with_signals}
 use Rattle.ioa_compose.specs.Simulates.{IsMadeOf, Simulates, SlotsHold}
-use Rattle.ioa_compose.proofs.SignatureLemmas.{zip-to}
+use Rattle.ioa_clash.proofs.ZipLemmas.{zip-to}
 use Rattle.ioa_compile.specs.CodeEnds.{ProposalEnds}
 use Rattle.ioa_compile.specs.Implements.{Implements}
 use Rattle.ioa_compile.specs.Matching.{MatchesEntry, MatchesMember}

@@ -14,9 +14,9 @@ use Rattle.ioa_tree.specs.Likes.{AllRelated}
 use Rattle.ioa_tree.specs.Meaning.{Env}
 use Rattle.ioa_tree.specs.Tree.{AutomatonTree, CrashTree, EntryTree}
 use Rattle.ioa_tree.specs.declared.tree.Kind.TheVariants.{Input}
-use Rattle.ioa_compose.specs.Rewriting.{signals, with_signals}
+use Rattle.ioa_crash.specs.Rewriting.{signals, with_signals}
 use Rattle.ioa_compose.specs.Simulates.{IsMadeOf, Simulates}
-use Rattle.ioa_compose.proofs.SignatureLemmas.{zip-at, zip-to}
+use Rattle.ioa_clash.proofs.ZipLemmas.{zip-at, zip-to}
 use Rattle.ioa_compile.specs.Implements.{Implements}
 use Rattle.ioa_compile.specs.Matching.{MatchesEntry, MatchesMember}
 use Rattle.ioa_compile.specs.Programs.{EntryCode, MemberCode, Prog}

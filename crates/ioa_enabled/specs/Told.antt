@@ -11,7 +11,7 @@ use Rattle.ioa_tree.specs.Compositions.{Member}
 use Rattle.ioa_tree.specs.Hosts.{Host, HostState, Hosted, host_of}
 use Rattle.ioa_tree.specs.Meaning.{Env}
 use Rattle.ioa_tree.specs.Tree.{EntryTree}
-use Rattle.ioa_compose.specs.Rewriting.{with_signals}
+use Rattle.ioa_crash.specs.Rewriting.{with_signals}
 use Rattle.ioa_compile.specs.Programs.{EntryCode, MemberCode}
 use Rattle.ioa_compile.specs.Tables.{table_component}
 use Rattle.ioa_picture.specs.Lines.{numbered}

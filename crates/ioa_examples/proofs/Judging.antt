@@ -8,8 +8,8 @@ use Rattle.ioa_tree.specs.declared.tree.Kind.TheVariants.{Input, Output}
 use Rattle.ioa_tree.specs.Components.{Component}
 use Rattle.ioa_tree.specs.Runs.{Ending, done, not_enabled_at, fault_at}
 use Rattle.ioa_system.specs.Logs.{Logged}
+use Rattle.ioa_monitor.specs.Monitoring.{monitored}
 use Rattle.ioa_log.specs.Judging.{judged, agrees, wrong_owner, diverges}
-use Rattle.ioa_log.specs.Monitoring.{monitored}
 use Rattle.ioa_log.specs.RunLogs.{run_log}
 
 abbrev is_named : Name → Act → Bool

@@ -1,7 +1,7 @@
 -- The limits of a source, each by its number, and those of a component of a composition.
 use Rattle.std.proofs.Common.{◌≡◌, refl}
 use Rattle.ioa_value.specs.declared.limits.TheConstants.{LIMITS}
-use Rattle.ioa_compose.specs.Fine.{component_limits}
+use Rattle.ioa_crash.specs.Limits.{component_limits}
 
 bytes_of_a_text : LIMITS.text ≡ 1048576
 bytes_of_a_text = refl

@@ -1,10 +1,7 @@
 -- A list text, line by line.
-use Rattle.std.proofs.Common.{◌≡◌, ℕ, ◌+◌, ◌-◌, ◌^◌, ◌<◌, ◌≤◌, ◌⊎◌, true, false, List, [], ◌∷◌, ◌++◌, length, refl, sym, ◌∙◌, ap, subst, Option, None, Some, Err, IfSome, inl, inr, arith}
-use Rattle.std.specs.Result.{IsErrOf}
-use Rattle.std.specs.Io.KnownBytes.{Consumes}
+use Rattle.std.proofs.Common.{◌≡◌, ℕ, ◌+◌, ◌-◌, ◌^◌, ◌<◌, ◌≤◌, ◌⊎◌, true, false, List, [], ◌∷◌, ◌++◌, length, refl, sym, ◌∙◌, ap, subst, Option, None, Some, IfSome, inl, inr, arith}
 use Rattle.std.proofs.lemmas.List.{append-nil}
 use Rattle.std.proofs.lemmas.Bool.{false≢true}
-use Rattle.std.proofs.KnownBytes.{Consumes-trans}
 use Rattle.ioa_value.specs.Actions.{Act}
 use Rattle.ioa_value.specs.Table.{Table}
 use denote.Ref.{Bor}
@@ -14,13 +11,13 @@ use Rattle.ioa_value.proofs.ListLemmas.{good, one_more}
 use Rattle.ioa_compile.specs.Programs.{Prog}
 use Rattle.ioa_system.specs.Progress.{CountsOneMore}
 use Rattle.ioa_system.proofs.Tracing.{performed_within}
-use Rattle.ioa_log.specs.declared.failure.LogErr.{LogErr}
+use Rattle.ioa_device.specs.declared.failure.LogErr.{LogErr}
+use Rattle.ioa_device.specs.Failing.{IsListErr}
+use Rattle.ioa_device.specs.LineReading.{AreTaken}
+use Rattle.ioa_device.proofs.LineReading.{all_taken, parted}
 use Rattle.ioa_log.specs.declared.reading.Reading.{Reading}
 use Rattle.ioa_log.specs.declared.reading.Replayed.{Replayed}
-use Rattle.ioa_log.specs.Failing.{HasFailed, IsListErr}
-use Rattle.ioa_log.specs.LineReading.{AreTaken}
 use Rattle.ioa_log.specs.Readings.{HasPerformed, HasRead, IsReplayed, ReadsOneMore}
-use Rattle.ioa_log.proofs.LineReading.{all_taken, parted}
 
 -- a line has one action at most
 few_actions : (types : Table) (ls : List (List ℕ)) (acts : List Act) → ReadsLines types ls acts → length acts ≤ length ls
@@ -87,21 +84,3 @@ pub list_stopped : (e : LogErr) → (e ≡ LogErr.Io) ⊎ ((e ≡ LogErr.AfterEn
 list_stopped e (inl s) ended = subst IsListErr (sym s) tt
 list_stopped e (inr (inl s)) ended = absurd (ended s)
 list_stopped e (inr (inr s)) ended = subst IsListErr (sym s) tt
-
--- ---- bytes that are known
-
-pub known_none : (known : Option (List ℕ)) (xs : List ℕ) → xs ≡ [] → Consumes known known xs
-known_none None xs e = tt
-known_none (Some bs) xs e = ap (λ zs. zs ++ bs) (sym e)
-
-pub known_pushed : (known left more : Option (List ℕ)) (xs ys zs : List ℕ) → zs ≡ xs ++ ys → Consumes known left xs → Consumes left more ys → Consumes known more zs
-known_pushed known left more xs ys zs e c d = subst (Consumes known more) (sym e) (Consumes-trans known left more xs ys c d)
-
--- ---- failures
-
-pub failed_since : (a b c : ℕ) → b ≡ a → HasFailed b c → HasFailed a c
-failed_since a b c e h = subst (λ k. HasFailed k c) e h
-
--- the error that is handed on
-pub kept_error : {T E : Type 0} (x y z : E) → x ≡ y → IsErrOf {T = T} (Err x) z → y ≡ z
-kept_error x y z s e = let k : x ≡ z = cc in sym s ∙ k

@@ -24,7 +24,7 @@ mod proposal;
 mod run;
 
 pub use draft::Draft;
-pub use proposal::{propose, propose_with};
+pub use proposal::{Proposal, proposal_with, propose, propose_with};
 pub use run::{draft_effect, effect, enabled, enabled_with};
 pub use state::{NodeState, from_values, state_values};
 pub use words::Words;

@@ -10,12 +10,13 @@ use Rattle.ioa_value.specs.Typing.{OwnTypes, own}
 use Rattle.ioa_value.proofs.TypingLemmas.{HaveTypes-owns, HaveTypes-from_own, HaveTypes-length}
 use Rattle.ioa_code.specs.declared.instr.PartKind.{PartKind}
 use Rattle.ioa_code.specs.Valid.{Part}
-use Rattle.ioa_compose.specs.Fine.{component_limits}
+use Rattle.ioa_crash.specs.Limits.{component_limits}
 use Rattle.ioa_compile.specs.Programs.{EntryCode, MemberCode}
 use Rattle.ioa_compile.specs.Tables.{IsPart, IsEntry, AreEntries, IsMember}
-use Rattle.ioa_object.specs.Reading.{list_at, entry_at, component_at}
+use Rattle.ioa_bytes.specs.Items.{list_at}
+use Rattle.ioa_object.specs.Reading.{entry_at, component_at}
 use Rattle.ioa_object.specs.Spelling.{text, list_of, value, entry, component}
-use Rattle.ioa_object.specs.Spots.{Spot}
+use Rattle.ioa_bytes.specs.Spots.{Spot}
 use Rattle.ioa_object.specs.Versions.{MayStand, entry_loops, member_loops}
 use Rattle.ioa_object.proofs.Formats.{AreBytes, Finds, finds_ok, finds_on, Yields, yields_ok, yields_on, Taken, IsFormat, chained}
 use Rattle.ioa_object.proofs.Texts.{name_format}

@@ -11,9 +11,10 @@ use Rattle.ioa_code.specs.declared.instr.PartKind.TheVariants.{Pre, Propose, Eff
 use Rattle.ioa_code.specs.Valid.{Part}
 use Rattle.ioa_tree.specs.declared.tree.Kind.TheVariants.{Output}
 use Rattle.ioa_compile.specs.Programs.{Prog}
-use Rattle.ioa_object.specs.Reading.{read, versioned_at, byte_at, tables_at, types_at, count_at, short_at, bytes_at, items_at, list_at, name_at, named_at, component_at, hidden_at, entry_at, opening_at, coded_at, kind_at, value_at, type_at, payload_in, truth_at, part_at, local_at, instrs_at, instr_at, instr_of}
+use Rattle.ioa_object.specs.Reading.{read, versioned_at, tables_at, types_at, component_at, hidden_at, entry_at, opening_at, coded_at, kind_at, part_at, local_at, instrs_at, instr_at, instr_of}
+use Rattle.ioa_bytes.specs.Items.{byte_at, count_at, short_at, bytes_at, items_at, list_at, name_at, named_at, value_at, type_at, payload_in, truth_at}
 use Rattle.ioa_object.specs.Spelling.{object}
-use Rattle.ioa_object.specs.declared.failure.ObjErr.TheVariants as errors
+use Rattle.ioa_bytes.specs.declared.failure.ObjErr.TheVariants as errors
 
 -- composition X of component A, with the output go, whose precondition is the constant true
 abbrev bytes : List ℕ

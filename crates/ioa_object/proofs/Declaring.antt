@@ -5,15 +5,16 @@ use Rattle.ioa_value.specs.Actions.{Name}
 use Rattle.ioa_value.specs.Table.{Table, Shape, Declaration, AreTypes, MayStand, MayFollow, contains, all_names}
 use Rattle.ioa_value.specs.Widths.{shape_width, widths}
 use Rattle.ioa_value.specs.declared.limits.TheConstants.{LIMITS}
-use Rattle.ioa_object.specs.Reading.{Outcome, ◌>>=◌, ◌>>◌, right, byte_at, name_at, form_at, declaration_at}
-use Rattle.ioa_object.specs.Spots.{Spot}
-use Rattle.ioa_object.specs.declared.failure.ObjErr.{ObjErr}
-use Rattle.ioa_object.specs.declared.failure.ObjErr.TheVariants as errors
+use Rattle.ioa_bytes.specs.Items.{Outcome, ◌>>=◌, ◌>>◌, right, byte_at, name_at}
+use Rattle.ioa_object.specs.Reading.{form_at, declaration_at}
+use Rattle.ioa_bytes.specs.Spots.{Spot}
+use Rattle.ioa_bytes.specs.declared.failure.ObjErr.{ObjErr}
+use Rattle.ioa_bytes.specs.declared.failure.ObjErr.TheVariants as errors
 use Rattle.ioa_object.proofs.Formats.{AreBytes, yielded}
 use Rattle.ioa_object.proofs.Forms.{form_format}
 use Rattle.ioa_object.proofs.Fresh.{distinct_push}
 use Rattle.ioa_object.proofs.Numbers.{byte_format}
-use Rattle.ioa_object.proofs.Readers.{then_err, then_ok}
+use Rattle.ioa_bytes.proofs.Readers.{then_err, then_ok}
 use Rattle.ioa_object.proofs.Texts.{name_format}
 use Rattle.ioa_object.proofs.TypeFormats.{declaration_format}
 

@@ -17,9 +17,10 @@ use Rattle.ioa_tree.specs.declared.tree.Kind.TheVariants.{Input, Output, Interna
 use Rattle.ioa_compile.specs.Programs.{EntryCode}
 use Rattle.ioa_compile.specs.Tables.{IsPart, IsEntry, HasLocal, position_types, parameter_types}
 use Rattle.ioa_compile.specs.declared.limits.TheConstants.{MOST_PLACES}
-use Rattle.ioa_object.specs.Reading.{built, list_at, kind_of, kind_from, kind_at, position_at, type_at, value_at, Opening, opening_at, coded_at, entry_at, part_at, local_at}
+use Rattle.ioa_bytes.specs.Items.{built, list_at, type_at, value_at}
+use Rattle.ioa_object.specs.Reading.{kind_of, kind_from, kind_at, position_at, Opening, opening_at, coded_at, entry_at, part_at, local_at}
 use Rattle.ioa_object.specs.Spelling.{short, text, list_of, value, kind_byte, position, code, local_code, entry}
-use Rattle.ioa_object.specs.Spots.{Spot}
+use Rattle.ioa_bytes.specs.Spots.{Spot}
 use Rattle.ioa_object.specs.Versions.{MayStand, part_loops, local_loops, entry_loops}
 use Rattle.ioa_object.proofs.Formats.{AreBytes, Finds, finds_ok, finds_on, finds_built, Yields, yields_ok, yields_none, yields_on, yields_right, yields_weaker, Taken, IsFormat, chained}
 use Rattle.ioa_object.proofs.Numbers.{IsAny, byte_format, type_format}

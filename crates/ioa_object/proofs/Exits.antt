@@ -8,13 +8,14 @@ use Rattle.ioa_tree.specs.Components.{Compatible}
 use Rattle.ioa_compile.specs.Programs.{Prog}
 use Rattle.ioa_compile.specs.Tables.{IsProgram, tabled}
 use Rattle.ioa_object.specs.Objects.{IsObject, IsUnder}
-use Rattle.ioa_object.specs.Reading.{Outcome, Fails, ◌>>=◌, byte_at, under_version, versioned_at, tables_at, read}
+use Rattle.ioa_bytes.specs.Items.{Outcome, Fails, ◌>>=◌, byte_at}
+use Rattle.ioa_object.specs.Reading.{under_version, versioned_at, tables_at, read}
 use Rattle.ioa_object.specs.Refusals.{HasNoMark, HasUnknownVersion, HasNeedlessVersion, HasOtherVersion, GoesOn, IsCut, IsRefused, IsRefusal}
 use Rattle.ioa_object.specs.Spelling.{mark, tables, under}
-use Rattle.ioa_object.specs.Spots.{Spot}
+use Rattle.ioa_bytes.specs.Spots.{Spot}
 use Rattle.ioa_object.specs.Versions.{loops_in, is_needless, version_byte, version_of}
-use Rattle.ioa_object.specs.declared.failure.ObjErr.{ObjErr}
-use Rattle.ioa_object.specs.declared.failure.ObjErr.TheVariants as errors
+use Rattle.ioa_bytes.specs.declared.failure.ObjErr.{ObjErr}
+use Rattle.ioa_bytes.specs.declared.failure.ObjErr.TheVariants as errors
 use Rattle.ioa_object.proofs.Formats.{AreBytes}
 use Rattle.ioa_object.proofs.Outcomes.{IsWrong}
 use Rattle.ioa_object.proofs.Refused.{tables_wrong, refused, no_mark, unknown_version, needless_read, cut, goes_on, is_read, is_whole, is_longer, clashes}

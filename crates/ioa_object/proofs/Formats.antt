@@ -1,9 +1,9 @@
 -- Formats: a reader, and how what it reads is spelled. It finds what is spelled, whatever follows, and what it finds was spelled so.
 use Rattle.std.proofs.Common.{◌≡◌, ℕ, ◌+◌, ◌<◌, Bool, true, false, List, ◌++◌, length, refl, sym, ap, ◌∙◌, subst, Ok, Err, if◌then◌else◌, All, arith}
 use Rattle.std.proofs.lemmas.List.{length-append, append_assoc, get_or-append-add, get_or_append_left}
-use Rattle.ioa_object.specs.Reading.{Outcome, Reader, ◌>>=◌, ◌>>◌, built, right}
-use Rattle.ioa_object.specs.Spots.{Spot}
-use Rattle.ioa_object.specs.declared.failure.ObjErr.{ObjErr}
+use Rattle.ioa_bytes.specs.Items.{Outcome, Reader, ◌>>=◌, ◌>>◌, built, right}
+use Rattle.ioa_bytes.specs.Spots.{Spot}
+use Rattle.ioa_bytes.specs.declared.failure.ObjErr.{ObjErr}
 
 abbrev pub AreBytes : List ℕ → Type 0
 AreBytes bytes = All (λ b. b < 256) bytes

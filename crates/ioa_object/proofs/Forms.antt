@@ -6,9 +6,10 @@ use Rattle.ioa_value.specs.Actions.{Name}
 use Rattle.ioa_value.specs.Names.{IsName}
 use Rattle.ioa_value.specs.Table.{TupleField, Shape, truths, numbers, names, fields, sequence, contains, distinct, names_in, field_names, MayStand}
 use Rattle.ioa_value.specs.declared.limits.TheConstants.{LIMITS}
-use Rattle.ioa_object.specs.Reading.{list_at, name_at, field_at, sequence_at, form_at}
+use Rattle.ioa_bytes.specs.Items.{list_at, name_at}
+use Rattle.ioa_object.specs.Reading.{field_at, sequence_at, form_at}
 use Rattle.ioa_object.specs.Spelling.{short, text, list_of, field}
-use Rattle.ioa_object.specs.Spots.{Spot}
+use Rattle.ioa_bytes.specs.Spots.{Spot}
 use Rattle.ioa_object.proofs.Formats.{Finds, finds_ok, finds_on, finds_built, yields_ok, yields_on, IsFormat, taken, chained}
 use Rattle.ioa_object.proofs.Numbers.{count_format, type_format}
 use Rattle.ioa_object.proofs.Texts.{IsFree, name_format}

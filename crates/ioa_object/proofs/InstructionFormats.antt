@@ -7,11 +7,12 @@ use Rattle.ioa_value.proofs.SameLemmas.{equal_numbers}
 use Rattle.ioa_code.specs.declared.instr.Instr.{Instr}
 use Rattle.ioa_code.specs.declared.instr.Instr.TheVariants.{Const, Slot, Arg, Store, Jump, JumpIfFalse, Any, Pick, Apply, Each, Again, Local}
 use Rattle.ioa_code.specs.Loops.{of_loops}
-use Rattle.ioa_object.specs.Reading.{Outcome, built, short_at, operator_at, type_operand, applied, instr_of, is_of_loops, instr_at}
+use Rattle.ioa_bytes.specs.Items.{Outcome, built, short_at}
+use Rattle.ioa_object.specs.Reading.{operator_at, type_operand, applied, instr_of, is_of_loops, instr_at}
 use Rattle.ioa_object.specs.Spelling.{short, operator, instruction}
-use Rattle.ioa_object.specs.Spots.{Spot}
+use Rattle.ioa_bytes.specs.Spots.{Spot}
 use Rattle.ioa_object.specs.Versions.{MayStand}
-use Rattle.ioa_object.specs.declared.failure.ObjErr.TheVariants as errors
+use Rattle.ioa_bytes.specs.declared.failure.ObjErr.TheVariants as errors
 use Rattle.ioa_object.proofs.Formats.{AreBytes, Finds, finds_ok, finds_on, finds_built, Yields, yields_ok, yields_none, yields_on, yields_if, yields_weaker, Taken, IsFormat}
 use Rattle.ioa_object.proofs.Numbers.{byte_format, short_format}
 

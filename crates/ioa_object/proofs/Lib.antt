@@ -1,7 +1,5 @@
 pub mod Declaring
 pub mod Names
-pub mod Payloads
-pub mod Readers
 pub mod Outcomes
 pub mod Local
 pub mod Formats

@@ -3,9 +3,9 @@ use Rattle.std.proofs.Common.{◌≡◌, ℕ, zero, suc, ◌^◌, ◌<◌, ◌�
 use Rattle.std.specs.List.{flat_map}
 use Rattle.std.proofs.lemmas.List.{append_assoc, append-nil}
 use Rattle.std.proofs.lemmas.List.Elements.{All-nil, All-cons, All-head, All-tail}
-use Rattle.ioa_object.specs.Reading.{Reader, items_at, list_at}
+use Rattle.ioa_bytes.specs.Items.{Reader, items_at, list_at}
 use Rattle.ioa_object.specs.Spelling.{short, list_of}
-use Rattle.ioa_object.specs.Spots.{Spot}
+use Rattle.ioa_bytes.specs.Spots.{Spot}
 use Rattle.ioa_object.proofs.Formats.{AreBytes, Finds, finds_ok, finds_on, Yields, yields_ok, yields_on, yields_weaker, IsFormat, same_format, chained}
 use Rattle.ioa_object.proofs.Numbers.{count_format}
 

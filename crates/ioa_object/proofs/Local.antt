@@ -15,9 +15,10 @@ use Rattle.ioa_code.specs.Valid.{Part}
 use Rattle.ioa_tree.specs.declared.tree.Kind.{Kind}
 use Rattle.ioa_tree.specs.declared.tree.Kind.TheVariants.{Input, Output, Internal}
 use Rattle.ioa_compile.specs.Programs.{EntryCode, MemberCode}
-use Rattle.ioa_object.specs.Reading.{Reader, built, passed, bytes_at, byte_of, byte_at, short_at, long_at, count_at, type_at, named_at, name_at, items_at, list_at, field_at, sequence_at, form_at, declaration_at, types_at, truth_at, constant_at, parts_at, payload_shaped, payload_in, value_at, type_operand, applied, instr_of, instr_at, operator_at, counted, verified, instrs_at, part_at, part_of, local_at, kind_of, kind_from, kind_at, position_at, opening_at, coded_at, Opening, entry_at, component_at, hidden_at, tables_at}
-use Rattle.ioa_object.specs.Spots.{Spot}
-use Rattle.ioa_object.specs.declared.failure.ObjErr.TheVariants as errors
+use Rattle.ioa_bytes.specs.Items.{Reader, built, passed, bytes_at, byte_of, byte_at, short_at, long_at, count_at, type_at, named_at, name_at, items_at, list_at, truth_at, constant_at, parts_at, payload_shaped, payload_in, value_at, counted}
+use Rattle.ioa_object.specs.Reading.{field_at, sequence_at, form_at, declaration_at, types_at, type_operand, applied, instr_of, instr_at, operator_at, verified, instrs_at, part_at, part_of, local_at, kind_of, kind_from, kind_at, position_at, opening_at, coded_at, Opening, entry_at, component_at, hidden_at, tables_at}
+use Rattle.ioa_bytes.specs.Spots.{Spot}
+use Rattle.ioa_bytes.specs.declared.failure.ObjErr.TheVariants as errors
 use Rattle.ioa_object.proofs.Outcomes.{longer, Stays, IsLocal, stays_ok, stays_wrong, stays_on, stays_right, stays_if, stays_built}
 
 -- ---- bytes and numbers

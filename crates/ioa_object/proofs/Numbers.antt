@@ -8,9 +8,9 @@ use Rattle.std.proofs.lemmas.Nat.{le_bytes_2, le_bytes_8, from_le_bytes-to_le_by
 use Rattle.std.proofs.lemmas.Int.{to_z-of_z, of_z-to_z}
 use Rattle.ioa_arithmetic.specs.Arithmetic.{fits}
 use Rattle.ioa_value.specs.Plain.{Val, num}
-use Rattle.ioa_object.specs.Reading.{built, bytes_at, byte_of, byte_at, short_at, long_at, count_at, type_at, passed}
+use Rattle.ioa_bytes.specs.Items.{built, bytes_at, byte_of, byte_at, short_at, long_at, count_at, type_at, passed}
 use Rattle.ioa_object.specs.Spelling.{short, long, payload}
-use Rattle.ioa_object.specs.Spots.{Spot}
+use Rattle.ioa_bytes.specs.Spots.{Spot}
 use Rattle.ioa_object.proofs.Formats.{AreBytes, Finds, finds_ok, finds_on, finds_right, finds_built, Yields, yields_ok, yields_none, yields_on, yields_right, yields_if, Taken, IsFormat, taken, bytes_before}
 
 abbrev pub IsAny : {A : Type 0} → A → Type 0

@@ -5,9 +5,10 @@ use Rattle.ioa_compile.specs.Programs.{Prog}
 use Rattle.ioa_compile.specs.Tables.{AreTables, AreRight, IsProgram, tabled}
 use Rattle.ioa_tree.specs.Components.{Compatible}
 use Rattle.ioa_object.specs.Objects.{IsObject, OneObject, OneProgram, NoneBeginsAnother}
-use Rattle.ioa_object.specs.Reading.{Outcome, byte_at, versioned_at, tables_at, read}
+use Rattle.ioa_bytes.specs.Items.{Outcome, byte_at}
+use Rattle.ioa_object.specs.Reading.{versioned_at, tables_at, read}
 use Rattle.ioa_object.specs.Spelling.{mark, tables, under, object}
-use Rattle.ioa_object.specs.Spots.{Spot}
+use Rattle.ioa_bytes.specs.Spots.{Spot}
 use Rattle.ioa_object.specs.Versions.{loops_in, version_byte}
 use Rattle.ioa_object.proofs.Formats.{Finds}
 use Rattle.ioa_object.proofs.Tables.{AreUnder, tables_format}

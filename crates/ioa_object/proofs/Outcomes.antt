@@ -1,10 +1,10 @@
 -- What is said of readers: how they answer with more bytes behind what they read.
 use Rattle.std.proofs.Common.{◌≡◌, ℕ, ◌<◌, ◌⊎◌, inl, inr, Bool, true, false, List, ◌++◌, refl, sym, ap, ◌∙◌, subst, Ok, Err, if◌then◌else◌, length, arith}
 use Rattle.std.proofs.lemmas.List.{length-append}
-use Rattle.ioa_object.specs.Reading.{Outcome, Reader, ◌>>=◌, ◌>>◌, built, right}
-use Rattle.ioa_object.specs.Spots.{Spot}
-use Rattle.ioa_object.specs.declared.failure.ObjErr.{ObjErr}
-use Rattle.ioa_object.specs.declared.failure.ObjErr.TheVariants as errors
+use Rattle.ioa_bytes.specs.Items.{Outcome, Reader, ◌>>=◌, ◌>>◌, built, right}
+use Rattle.ioa_bytes.specs.Spots.{Spot}
+use Rattle.ioa_bytes.specs.declared.failure.ObjErr.{ObjErr}
+use Rattle.ioa_bytes.specs.declared.failure.ObjErr.TheVariants as errors
 
 -- ---- more bytes behind
 

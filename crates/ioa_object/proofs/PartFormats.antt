@@ -18,9 +18,10 @@ use Rattle.ioa_tree.specs.declared.tree.Kind.TheVariants.{Input, Output, Interna
 use Rattle.ioa_compile.specs.Programs.{MemberCode}
 use Rattle.ioa_compile.specs.Tables.{IsPart, HasLocal}
 use Rattle.ioa_compile.specs.declared.limits.TheConstants.{MOST_PLACES}
-use Rattle.ioa_object.specs.Reading.{Reader, built, instr_at, instrs_at, verified, part_of, part_at, local_at, counted}
+use Rattle.ioa_bytes.specs.Items.{Reader, built, counted}
+use Rattle.ioa_object.specs.Reading.{instr_at, instrs_at, verified, part_of, part_at, local_at}
 use Rattle.ioa_object.specs.Spelling.{short, list_of, instruction, code, local_code}
-use Rattle.ioa_object.specs.Spots.{Spot}
+use Rattle.ioa_bytes.specs.Spots.{Spot}
 use Rattle.ioa_object.specs.Versions.{MayStand, part_loops}
 use Rattle.ioa_object.proofs.Formats.{AreBytes, Finds, finds_ok, finds_on, finds_built, Yields, yields_ok, yields_none, yields_on, yields_weaker, Taken, IsFormat, chained}
 use Rattle.ioa_object.proofs.Numbers.{short_format}

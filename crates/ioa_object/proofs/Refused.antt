@@ -7,13 +7,14 @@ use Rattle.ioa_compile.specs.Programs.{Prog}
 use Rattle.ioa_compile.specs.Tables.{IsProgram, tabled}
 use Rattle.ioa_tree.specs.Components.{Compatible}
 use Rattle.ioa_object.specs.Objects.{IsObject, IsUnder}
-use Rattle.ioa_object.specs.Reading.{Outcome, begins, byte_at, versioned_at, tables_at, read}
+use Rattle.ioa_bytes.specs.Items.{Outcome, byte_at}
+use Rattle.ioa_object.specs.Reading.{begins, versioned_at, tables_at, read}
 use Rattle.ioa_object.specs.Refusals.{HasNoMark, HasUnknownVersion, HasNeedlessVersion, GoesOn, IsCut, Clashes, IsRefused}
 use Rattle.ioa_object.specs.Spelling.{mark, tables, under}
-use Rattle.ioa_object.specs.Spots.{Spot}
+use Rattle.ioa_bytes.specs.Spots.{Spot}
 use Rattle.ioa_object.specs.Versions.{MayStand, loops_in, version_byte}
-use Rattle.ioa_object.specs.declared.failure.ObjErr.{ObjErr}
-use Rattle.ioa_object.specs.declared.failure.ObjErr.TheVariants as errors
+use Rattle.ioa_bytes.specs.declared.failure.ObjErr.{ObjErr}
+use Rattle.ioa_bytes.specs.declared.failure.ObjErr.TheVariants as errors
 use Rattle.ioa_object.proofs.Outcomes.{IsWrong, ended_or_wrong, cut_inside}
 use Rattle.ioa_object.proofs.Local.{tables_local}
 use Rattle.ioa_object.proofs.Formats.{AreBytes, yielded, bytes_behind}

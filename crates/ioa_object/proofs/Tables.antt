@@ -14,9 +14,10 @@ use Rattle.ioa_value.proofs.NameLemmas.{same_name}
 use Rattle.ioa_tree.specs.Components.{is_output}
 use Rattle.ioa_compile.specs.Programs.{EntryCode, MemberCode, Prog}
 use Rattle.ioa_compile.specs.Tables.{IsEntry, AreEntries, IsMember, AreMembers, have_output, AreRight}
-use Rattle.ioa_object.specs.Reading.{list_at, component_at, hidden_at, tables_at}
+use Rattle.ioa_bytes.specs.Items.{list_at}
+use Rattle.ioa_object.specs.Reading.{component_at, hidden_at, tables_at}
 use Rattle.ioa_object.specs.Spelling.{text, list_of, declaration, declared, component, tables}
-use Rattle.ioa_object.specs.Spots.{Spot}
+use Rattle.ioa_bytes.specs.Spots.{Spot}
 use Rattle.ioa_object.specs.Versions.{MayStand, member_loops, loops_in}
 use Rattle.ioa_object.proofs.Formats.{AreBytes, Finds, finds_ok, finds_on, Yields, yields_ok, yields_on, Taken, IsFormat, same_format, chained}
 use Rattle.ioa_object.proofs.Texts.{name_format}

@@ -6,9 +6,9 @@ use Rattle.ioa_value.specs.Actions.{Name}
 use Rattle.ioa_value.specs.Names.{is_name, IsName, begins_with_letter, is_word_byte, is_reserved}
 use Rattle.ioa_value.specs.declared.limits.TheConstants.{LIMITS}
 use Rattle.ioa_value.proofs.SpellLemmas.{begins_name}
-use Rattle.ioa_object.specs.Reading.{named_at, name_at}
+use Rattle.ioa_bytes.specs.Items.{named_at, name_at}
 use Rattle.ioa_object.specs.Spelling.{text}
-use Rattle.ioa_object.specs.Spots.{Spot}
+use Rattle.ioa_bytes.specs.Spots.{Spot}
 use Rattle.ioa_object.proofs.Formats.{AreBytes, Finds, finds_ok, finds_on, finds_step, finds_right, Yields, yields_ok, yields_on, yields_right, Taken, IsFormat, taken, chained}
 use Rattle.ioa_object.proofs.Numbers.{bytes_format, byte_format}
 

@@ -16,7 +16,7 @@ use Rattle.ioa_value.proofs.TableLemmas.{pushed, basic_types}
 use Rattle.ioa_tree.proofs.WidthLemmas.{narrow_there}
 use Rattle.ioa_object.specs.Reading.{form_at, declaration_at, types_at}
 use Rattle.ioa_object.specs.Spelling.{short, text, list_of, form, declaration, declared}
-use Rattle.ioa_object.specs.Spots.{Spot}
+use Rattle.ioa_bytes.specs.Spots.{Spot}
 use Rattle.ioa_object.proofs.Formats.{AreBytes, Finds, finds_ok, finds_on, finds_right, Yields, yields_ok, yields_on, yields_right, yields_weaker, Taken, IsFormat, chained}
 use Rattle.ioa_object.proofs.Numbers.{byte_format, count_format}
 use Rattle.ioa_object.proofs.Texts.{name_format}

@@ -16,9 +16,9 @@ use Rattle.ioa_value.proofs.SameLemmas.{equal, equal_numbers}
 use Rattle.ioa_value.proofs.TableLemmas.{stands}
 use Rattle.ioa_value.proofs.TypingLemmas.{IsOwn, is_truth, is_number, has_own, own_type}
 use Rattle.ioa_value.proofs.SequenceTyping.{AreItems, sequence_typed, made_typed, sequence_parts, tuple_parts}
-use Rattle.ioa_object.specs.Reading.{Reader, ◌>>◌, right, built, list_at, truth_at, long_at, constant_at, parts_at, payload_shaped, payload_in, value_at}
+use Rattle.ioa_bytes.specs.Items.{Reader, ◌>>◌, right, built, list_at, truth_at, long_at, constant_at, parts_at, payload_shaped, payload_in, value_at}
 use Rattle.ioa_object.specs.Spelling.{short, bit, payload, payloads, value, list_of}
-use Rattle.ioa_object.specs.Spots.{Spot}
+use Rattle.ioa_bytes.specs.Spots.{Spot}
 use Rattle.ioa_object.proofs.Formats.{AreBytes, Finds, finds_ok, finds_on, finds_right, finds_built, Yields, yields_ok, yields_on, yields_right, yields_weaker, IsFormat, same_format, chained}
 use Rattle.ioa_object.proofs.Numbers.{IsLong, byte_format, long_format, type_format}
 use Rattle.ioa_object.proofs.TypeFormats.{two_types}

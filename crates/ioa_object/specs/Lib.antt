@@ -1,7 +1,6 @@
 pub mod Versions
 pub mod Spelling
 pub mod Objects
-pub mod Spots
 pub mod Reading
 pub mod Openings
 pub mod Refusals

@@ -7,8 +7,8 @@ use Rattle.ioa_object.specs.Objects.{IsUnder}
 use Rattle.ioa_object.specs.Reading.{read}
 use Rattle.ioa_object.specs.Spelling.{mark, under}
 use Rattle.ioa_object.specs.Versions.{MayStand, loops_in, version_byte}
-use Rattle.ioa_object.specs.declared.failure.ObjErr.{ObjErr}
-use Rattle.ioa_object.specs.declared.failure.ObjErr.TheVariants as errors
+use Rattle.ioa_bytes.specs.declared.failure.ObjErr.{ObjErr}
+use Rattle.ioa_bytes.specs.declared.failure.ObjErr.TheVariants as errors
 
 -- the first four bytes are not all there, or others
 abbrev pub HasNoMark : List ℕ → Type 0

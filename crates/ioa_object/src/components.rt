@@ -7,16 +7,14 @@ ghost use Rattle.ioa_value.specs.Positions.{domain_of};
 ghost use Rattle.ioa_value.specs.Table.{AreTypes};
 ghost use Rattle.ioa_value.specs.Typing.{own, OwnTypes};
 ghost use Rattle.ioa_value.specs.declared.limits.TheConstants.{LIMITS as most};
-ghost use Rattle.ioa_compose.specs.Fine.{component_limits};
+ghost use Rattle.ioa_crash.specs.Limits.{component_limits};
 ghost use Rattle.ioa_compile.specs.Shown.{entry_code, member_code};
 ghost use Rattle.ioa_object.specs.Openings.{opening};
 ghost use Rattle.ioa_object.specs.Reading as spec;
-ghost use Rattle.ioa_object.specs.Reading.{ReadsItem};
+ghost use Rattle.ioa_bytes.specs.Items.{ReadsItem, list_at};
 
-use crate::cursor::Cursor;
-use crate::failure::ObjErr;
 use crate::parts::{local_part, part};
-use crate::values::{value, values};
+use ioa_bytes::{Cursor, ObjErr, value, values};
 use ioa_code::{Env, PartKind};
 use ioa_compile::{Entry, MOST_PLACES, Member, is_named, parameter_types, position_types};
 use ioa_compose::COMPONENT_LIMITS;
@@ -32,7 +30,7 @@ pub(crate) fn components(
     types: &Types,
 ) -> Result<Vec<Member>, ObjErr>
     requires { AreTypes types.now }
-    ensures { ReadsItem (λ v. map member_code v.items) (spec.list_at 1 most.components (spec.component_at loops types.now) cursor.old) result cursor.new }
+    ensures { ReadsItem (λ v. map member_code v.items) (list_at 1 most.components (spec.component_at loops types.now) cursor.old) result cursor.new }
 {
     let count = cursor.count(1, LIMITS.components)?;
     let mut found = Vec::new(cursor.alloc());
@@ -43,7 +41,7 @@ pub(crate) fn components(
 }
 
 /// The component that comes after these.
-#[tactic(auto, unfolding(crate::specs::Reading::component_at, crate::specs::Reading::name_at))]
+#[tactic(auto, unfolding(crate::specs::Reading::component_at, ioa_bytes::specs::Items::name_at))]
 fn component(
     cursor: &mut Cursor<'_>,
     loops: bool,
@@ -87,7 +85,7 @@ fn types_of(alloc: Global, values: &[Value]) -> Result<Vec<Ty>, OutOfMemory>
 }
 
 /// The entries of a component, over variables of these types.
-#[tactic(auto, unfolding(crate::specs::Reading::list_at))]
+#[tactic(auto, unfolding(ioa_bytes::specs::Items::list_at))]
 fn entries(
     cursor: &mut Cursor<'_>,
     loops: bool,
@@ -95,7 +93,7 @@ fn entries(
     slots: &[Ty],
 ) -> Result<Vec<Entry>, ObjErr>
     requires { AreTypes types.now }
-    ensures { ReadsItem (λ v. map entry_code v.items) (spec.list_at 1 component_limits.entries (spec.entry_at loops types.now (map number slots.now)) cursor.old) result cursor.new }
+    ensures { ReadsItem (λ v. map entry_code v.items) (list_at 1 component_limits.entries (spec.entry_at loops types.now (map number slots.now)) cursor.old) result cursor.new }
 {
     let count = cursor.count(1, COMPONENT_LIMITS.entries)?;
     let mut found = Vec::new(cursor.alloc());
@@ -142,7 +140,7 @@ fn entry(
 }
 
 /// What the entry is that comes after these, before its code.
-#[tactic(auto, unfolding(crate::specs::Reading::opening_at, crate::specs::Reading::name_at))]
+#[tactic(auto, unfolding(crate::specs::Reading::opening_at, ioa_bytes::specs::Items::name_at))]
 fn front_of(cursor: &mut Cursor<'_>, types: &Types, before: &[Entry]) -> Result<Front, ObjErr>
     requires { AreTypes types.now }
     ensures typed { IfOk result (λ front. OwnTypes types.now (map plain front.consts.items)) }
@@ -180,7 +178,7 @@ fn kind(cursor: &mut Cursor<'_>) -> Result<Kind, ObjErr>
 
 /// The positions of an entry.
 fn positions(cursor: &mut Cursor<'_>, types: &Types) -> Result<Vec<Position>, ObjErr>
-    ensures { ReadsItem (λ v. map domain_of v.items) (spec.list_at 0 most.parameters (λ _. spec.position_at types.now) cursor.old) result cursor.new }
+    ensures { ReadsItem (λ v. map domain_of v.items) (list_at 0 most.parameters (λ _. spec.position_at types.now) cursor.old) result cursor.new }
 {
     let count = cursor.count(0, LIMITS.parameters)?;
     let mut found = Vec::new(cursor.alloc());

@@ -2,10 +2,9 @@
 
 ghost use Rattle.std.specs.Prelude.{◌≡◌, ◌≤◌, OnOk};
 ghost use Rattle.ioa_object.specs.Reading as spec;
-ghost use Rattle.ioa_object.specs.Reading.{ReadsItem};
+ghost use Rattle.ioa_bytes.specs.Items.{ReadsItem};
 
-use crate::cursor::Cursor;
-use crate::failure::ObjErr;
+use ioa_bytes::{Cursor, ObjErr};
 use ioa_code::Instr;
 use ioa_value::{Op, Ty};
 

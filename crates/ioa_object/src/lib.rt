@@ -2,9 +2,7 @@
 //! code is verified, so what is read keeps all that a `Program` keeps, whoever wrote the bytes.
 #![tactic(auto)]
 
-// How objects begin, a place in their bytes, and why bytes are none.
-mod cursor;
-mod failure;
+// How objects begin.
 mod mark;
 mod versions;
 
@@ -13,7 +11,6 @@ mod components;
 mod instructions;
 mod parts;
 mod types;
-mod values;
 
 // Whole programs.
 mod reading;
@@ -22,7 +19,7 @@ mod writing;
 // Laws.
 mod laws;
 
-pub use failure::ObjErr;
+pub use ioa_bytes::ObjErr;
 pub use laws::objects_are_their_programs;
 pub use reading::read_object;
 pub use writing::write_object;

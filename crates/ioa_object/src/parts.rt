@@ -4,11 +4,10 @@ ghost use Rattle.std.specs.Prelude.{◌≡◌, ◌<◌, OnOk, map};
 ghost use Rattle.ioa_value.specs.Plain.{number, plain};
 ghost use Rattle.ioa_value.specs.Typing.{OwnTypes};
 ghost use Rattle.ioa_object.specs.Reading as spec;
-ghost use Rattle.ioa_object.specs.Reading.{ReadsItem};
+ghost use Rattle.ioa_bytes.specs.Items.{ReadsItem};
 
-use crate::cursor::Cursor;
-use crate::failure::ObjErr;
 use crate::instructions::instruction;
+use ioa_bytes::{Cursor, ObjErr};
 use ioa_code::{Code, CodeErr, Env, Instr, Verified, verify};
 use ioa_tree::Kind;
 use ioa_value::{Value, copies};

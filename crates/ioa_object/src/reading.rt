@@ -8,17 +8,17 @@ ghost use Rattle.ioa_compile.specs.Given.{prog_of};
 ghost use Rattle.ioa_compile.specs.Programs.{Prog};
 ghost use Rattle.ioa_compile.specs.Shown.{member_code};
 ghost use Rattle.ioa_object.specs.Objects.{IsObject};
+ghost use Rattle.ioa_bytes.specs.Items.{ReadsItem, name_at, list_at};
 ghost use Rattle.ioa_object.specs.Reading as spec;
 ghost use Rattle.ioa_object.specs.Refusals.{HasNoMark, HasUnknownVersion, HasOtherVersion, GoesOn, IsCut, IsRefused, IsRefusal};
 ghost use Rattle.ioa_object.specs.Spelling.{mark};
-ghost use Rattle.ioa_object.specs.declared.failure.ObjErr.{ObjErr};
+ghost use Rattle.ioa_bytes.specs.declared.failure.ObjErr.{ObjErr};
 
 use crate::components::components;
-use crate::cursor::Cursor;
-use crate::failure::ObjErr;
 use crate::mark::MARK;
 use crate::types::types;
 use crate::versions::{is_needless, version_of};
+use ioa_bytes::{Cursor, ObjErr};
 use ioa_compile::{Member, Program, TableErr, Tables, is_given, is_named, is_output};
 use ioa_value::{LIMITS, Types};
 use std::alloc::Global;
@@ -87,7 +87,7 @@ pub fn read_object(alloc: Global, bytes: &[u8]) -> Result<Program, ObjErr>
 /// The tables of a program, in whose code loops may stand or not.
 #[tactic(auto, unfolding(crate::specs::Reading::tables_at))]
 fn tables(cursor: &mut Cursor<'_>, loops: bool) -> Result<Tables, ObjErr>
-    ensures { spec.ReadsItem prog_of (spec.tables_at loops cursor.old) result cursor.new }
+    ensures { ReadsItem prog_of (spec.tables_at loops cursor.old) result cursor.new }
 {
     let types = types(cursor)?;
     let name = name(cursor, &types)?;
@@ -102,9 +102,9 @@ fn tables(cursor: &mut Cursor<'_>, loops: bool) -> Result<Tables, ObjErr>
 }
 
 /// The composition's name, which no type gives.
-#[tactic(auto, unfolding(crate::specs::Reading::name_at))]
+#[tactic(auto, unfolding(ioa_bytes::specs::Items::name_at))]
 fn name(cursor: &mut Cursor<'_>, types: &Types) -> Result<String, ObjErr>
-    ensures { spec.ReadsItem string_bytes (spec.name_at (contains (all_names types.now)) cursor.old) result cursor.new }
+    ensures { ReadsItem string_bytes (name_at (contains (all_names types.now)) cursor.old) result cursor.new }
 {
     let name = cursor.name()?;
     if is_given(types, name.text) {
@@ -114,9 +114,9 @@ fn name(cursor: &mut Cursor<'_>, types: &Types) -> Result<String, ObjErr>
 }
 
 /// The hidden names, each of an output.
-#[tactic(auto, unfolding(crate::specs::Reading::list_at))]
+#[tactic(auto, unfolding(ioa_bytes::specs::Items::list_at))]
 fn hidden_names(cursor: &mut Cursor<'_>, members: &[Member]) -> Result<Vec<String>, ObjErr>
-    ensures { spec.ReadsItem (λ v. map string_bytes v.items) (spec.list_at 0 most.hidden (spec.hidden_at (map member_code members.now)) cursor.old) result cursor.new }
+    ensures { ReadsItem (λ v. map string_bytes v.items) (list_at 0 most.hidden (spec.hidden_at (map member_code members.now)) cursor.old) result cursor.new }
 {
     let count = cursor.count(0, LIMITS.hidden)?;
     let mut found = Vec::new(cursor.alloc());
@@ -127,13 +127,13 @@ fn hidden_names(cursor: &mut Cursor<'_>, members: &[Member]) -> Result<Vec<Strin
 }
 
 /// The hidden name that comes after these.
-#[tactic(auto, unfolding(crate::specs::Reading::hidden_at, crate::specs::Reading::name_at))]
+#[tactic(auto, unfolding(crate::specs::Reading::hidden_at, ioa_bytes::specs::Items::name_at))]
 fn hidden_name(
     cursor: &mut Cursor<'_>,
     members: &[Member],
     before: &[String],
 ) -> Result<String, ObjErr>
-    ensures { spec.ReadsItem string_bytes (spec.hidden_at (map member_code members.now) (map string_bytes before.now) cursor.old) result cursor.new }
+    ensures { ReadsItem string_bytes (spec.hidden_at (map member_code members.now) (map string_bytes before.now) cursor.old) result cursor.new }
 {
     let name = cursor.name()?;
     if is_named(before, name.text) || !is_output(members, name.text) {

@@ -6,10 +6,9 @@ ghost use Rattle.ioa_value.specs.Shapes.{shape, tuple_field};
 ghost use Rattle.ioa_value.specs.Table.{AreTypes, all_names, contains, names_in};
 ghost use Rattle.ioa_value.specs.declared.limits.TheConstants.{LIMITS as most};
 ghost use Rattle.ioa_object.specs.Reading as spec;
-ghost use Rattle.ioa_object.specs.Reading.{ReadsItem};
+ghost use Rattle.ioa_bytes.specs.Items.{ReadsItem, built, name_at, list_at};
 
-use crate::cursor::Cursor;
-use crate::failure::ObjErr;
+use ioa_bytes::{Cursor, ObjErr};
 use ioa_compile::is_named;
 use ioa_rules::NameSet;
 use ioa_value::{Declarations, Declared, Field, Form, LIMITS, Types};
@@ -40,7 +39,7 @@ fn one_more<'a>(
 ) -> Result<Declarations, ObjErr>
     requires room { length declarations < 2 + most.types }
     requires names { taken.old ≡ all_names declarations }
-    ensures read { ReadsItem (λ types. types) (spec.built (λ d. declarations ++ d ∷ []) (spec.declaration_at declarations cursor.old)) result cursor.new }
+    ensures read { ReadsItem (λ types. types) (built (λ d. declarations ++ d ∷ []) (spec.declaration_at declarations cursor.old)) result cursor.new }
     ensures names { IfOk result (λ types. taken.new ≡ all_names types) }
 {
     let alloc = cursor.alloc();
@@ -59,9 +58,9 @@ fn one_more<'a>(
 }
 
 /// A name that is not taken, and is taken from here on.
-#[tactic(auto, unfolding(crate::specs::Reading::name_at))]
+#[tactic(auto, unfolding(ioa_bytes::specs::Items::name_at))]
 fn new_name<'a>(cursor: &mut Cursor<'a>, taken: &mut NameSet<'a>) -> Result<&'a str, ObjErr>
-    ensures read { ReadsItem (λ x. x.now) (spec.name_at (contains taken.old) cursor.old) result cursor.new }
+    ensures read { ReadsItem (λ x. x.now) (name_at (contains taken.old) cursor.old) result cursor.new }
     ensures names { IfOk result (λ x. taken.new ≡ taken.old ++ x.now ∷ []) }
 {
     let name = cursor.name()?;
@@ -92,7 +91,7 @@ fn form<'a>(
 
 /// The names of an enumeration.
 fn constants<'a>(cursor: &mut Cursor<'a>, taken: &mut NameSet<'a>) -> Result<Vec<String>, ObjErr>
-    ensures read { ReadsItem (λ v. map string_bytes v.items) (spec.list_at 1 most.names (λ before. spec.name_at (contains (taken.old ++ before))) cursor.old) result cursor.new }
+    ensures read { ReadsItem (λ v. map string_bytes v.items) (list_at 1 most.names (λ before. name_at (contains (taken.old ++ before))) cursor.old) result cursor.new }
     ensures names { IfOk result (λ v. taken.new ≡ taken.old ++ map string_bytes v.items) }
 {
     let alloc = cursor.alloc();
@@ -106,7 +105,7 @@ fn constants<'a>(cursor: &mut Cursor<'a>, taken: &mut NameSet<'a>) -> Result<Vec
 
 /// The fields of a tuple, each of one of so many types.
 fn fields(cursor: &mut Cursor<'_>, count: usize) -> Result<Vec<Field>, ObjErr>
-    ensures { ReadsItem (λ v. map tuple_field v.items) (spec.list_at 1 most.fields (spec.field_at count) cursor.old) result cursor.new }
+    ensures { ReadsItem (λ v. map tuple_field v.items) (list_at 1 most.fields (spec.field_at count) cursor.old) result cursor.new }
 {
     let length = cursor.count(1, LIMITS.fields)?;
     let mut found = Vec::new(cursor.alloc());
@@ -117,7 +116,7 @@ fn fields(cursor: &mut Cursor<'_>, count: usize) -> Result<Vec<Field>, ObjErr>
 }
 
 /// The field that comes after these.
-#[tactic(auto, unfolding(crate::specs::Reading::field_at, crate::specs::Reading::name_at))]
+#[tactic(auto, unfolding(crate::specs::Reading::field_at, ioa_bytes::specs::Items::name_at))]
 fn field(cursor: &mut Cursor<'_>, count: usize, before: &[Field]) -> Result<Field, ObjErr>
     ensures { ReadsItem tuple_field (spec.field_at count (map tuple_field before.now) cursor.old) result cursor.new }
 {

@@ -1,10 +1,8 @@
 //! What follows from the definitions alone. The functions do nothing: what they say is in their contracts.
 
 ghost use Rattle.std.specs.Prelude.{List};
-ghost use Rattle.ioa_value.specs.Plain.{Val};
 ghost use Rattle.ioa_tree.specs.Components.{Component};
-ghost use Rattle.ioa_tree.specs.Hosts.{HostState};
-ghost use Rattle.ioa_tree.specs.Meaning.{Env};
+ghost use Rattle.ioa_compile.specs.Subjects.{State, Subject};
 ghost use Rattle.ioa_picture.specs.Charts.{DrawsEach};
 ghost use Rattle.ioa_picture.specs.Edges.{GivenArePassed, TakersTake};
 ghost use Rattle.ioa_picture.specs.Labels.{ActionsAreLabels, EndsAreLabels, NamesAreLabels};
@@ -26,6 +24,5 @@ pub fn labels_need_no_escape()
 
 /// A chart from which nothing is left out has each entry of the log once, in order, and then its end; by whatever states the components have.
 pub fn whole_charts_draw_each_entry()
-    ensures table { (ps : List (Component (List Val))) → DrawsEach ps }
-    ensures hosts { (ps : List (Component (HostState Env))) → DrawsEach ps }
+    ensures { (s : Subject) (ps : List (Component (State s))) → DrawsEach ps }
 {}

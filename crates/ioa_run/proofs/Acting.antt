@@ -2,12 +2,11 @@
 use Rattle.std.proofs.Common.{◌≡◌, ℕ, Bool, true, false, cond, refl, sym, ◌∙◌, ap, subst}
 use Rattle.ioa_value.specs.Actions.{Act}
 use Rattle.std.specs.Prelude.{Some}
-use Rattle.ioa_run.specs.declared.answer.Answer.{Answer}
+use Rattle.ioa_board.specs.declared.answer.Answer.{Answer}
 use Rattle.ioa_run.specs.declared.turn.TurnEnd.{TurnEnd}
-use Rattle.ioa_run.specs.Attempted.{RoomAttempt}
-use Rattle.ioa_run.specs.Going.{told_in}
-use Rattle.ioa_run.specs.ProgramRooms.{ProgramRoom}
-use Rattle.ioa_run.specs.Reports.{Changes}
+use Rattle.ioa_board.specs.Attempted.{RoomAttempt}
+use Rattle.ioa_board.specs.Reports.{told_in, Changes}
+use Rattle.ioa_board.specs.ProgramRooms.{ProgramRoom}
 use Rattle.ioa_run.specs.Turning.{Acts, Attempts, end_of}
 use Rattle.ioa_run.specs.Turns.{is_last}
 

@@ -12,14 +12,14 @@ use Rattle.ioa_tree.specs.Proposing.{Words, Tried, tries, idle}
 use Rattle.ioa_tree.specs.Steps.{Moved, next, not_an_action, not_enabled, fault, step}
 use Rattle.ioa_system.specs.Histories.{Leads}
 use Rattle.ioa_system.specs.Logs.{worker}
-use Rattle.ioa_run.specs.declared.answer.Answer.{Answer}
-use Rattle.ioa_run.specs.declared.report.Report.{Report}
-use Rattle.ioa_run.specs.Boards.{Failure, IsFailureFrom, IsSound, Standing}
+use Rattle.ioa_board.specs.declared.answer.Answer.{Answer}
+use Rattle.ioa_board.specs.declared.report.Report.{Report}
+use Rattle.ioa_board.specs.Boards.{Failure, IsFailureFrom, IsSound, Standing, attempt, not_own, own_attempt}
 use Rattle.ioa_run.specs.Played.{alone_events, attempt_events, first_events, rounds_events, tried_events, turn_events}
-use Rattle.ioa_run.specs.Reports.{blank, with_idle}
+use Rattle.ioa_board.specs.Reports.{blank, with_idle, told}
 use Rattle.ioa_run.specs.Schedules.{Event}
 use Rattle.ioa_run.specs.Subjects.{BoardsLike, TurnsLike}
-use Rattle.ioa_run.specs.Turns.{Proposer, Turns, after, all_done, alone_from, attempt, changed, chosen, has_ended, is_last, meant, next_choice, next_input, not_own, own_attempt, rounds, told, turn, turned, turns_from, turns_of_first, with_done}
+use Rattle.ioa_run.specs.Turns.{Proposer, Turns, after, all_done, alone_from, changed, chosen, has_ended, is_last, meant, next_choice, next_input, rounds, turn, turned, turns_from, turns_of_first, with_done}
 
 pub related_length : {S T : Type 0} (R : ℕ → S → T → Type 0) (i : ℕ) (xs : List S) (ys : List T) → AllRelated R i xs ys → length xs ≡ length ys
 related_length R i [] [] r = refl

@@ -1,5 +1,5 @@
 -- Schedules of components that step alike answer alike.
-use Rattle.std.proofs.Common.{◌≡◌, ℕ, zero, suc, ◌+◌, List, [], ◌∷◌, ◌++◌, length, Bool, true, false, cond, Option, None, Some, Result, Ok, Err, refl, sym, ◌∙◌, ap, subst, arith, replicate}
+use Rattle.std.proofs.Common.{◌≡◌, ℕ, zero, suc, ◌+◌, List, [], ◌∷◌, ◌++◌, length, Option, None, Some, refl, sym, ◌∙◌, ap, subst, arith, replicate}
 use Rattle.std.specs.Prelude.{IsSome, slice_get, slice_set, unwrap_or}
 use Rattle.std.specs.List.{AllZip, cons_option}
 use Rattle.ioa_value.specs.Actions.{Act}
@@ -8,10 +8,10 @@ use Rattle.ioa_tree.specs.Likes.{AllRelated, MovesLike}
 use Rattle.ioa_tree.specs.Steps.{Moved, next, not_an_action, not_enabled, fault, participants, step}
 use Rattle.ioa_system.specs.Logs.{worker}
 use Rattle.ioa_system.specs.Participants.{taken}
-use Rattle.ioa_run.specs.declared.answer.Answer.{Answer}
-use Rattle.ioa_run.specs.Boards.{Commits, Failure, Intent, IsCurrent, Standing, now_of, with_entry, with_failure}
+use Rattle.ioa_board.specs.declared.answer.Answer.{Answer}
+use Rattle.ioa_board.specs.Boards.{Commits, Failure, Intent, IsCurrent, Standing, now_of, with_entry, with_failure, Plans, intent}
 use Rattle.ioa_run.specs.Subjects.{BoardsLike, IntentsLike, PlansLike, SchedulesLike}
-use Rattle.ioa_run.specs.Schedules.{Answers, Event, Plans, Plays, Schedule, Spends, commit, copy, intent, plan_of, schedule_from, with_plan}
+use Rattle.ioa_run.specs.Schedules.{Answers, Event, Plays, Schedule, Spends, commit, copy, plan_of, schedule_from, with_plan}
 use Rattle.ioa_run.proofs.Alike.{Both, fault_back, next_back, related_at, related_length}
 use Rattle.ioa_run.proofs.Lengths.{long_step}
 

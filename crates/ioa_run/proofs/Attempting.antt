@@ -6,11 +6,10 @@ use Rattle.ioa_value.specs.Actions.{Act}
 use Rattle.ioa_tree.specs.Components.{Component}
 use Rattle.ioa_tree.specs.Steps.{Moved, next, not_an_action, not_enabled, fault, step}
 use Rattle.ioa_system.specs.Logs.{worker}
-use Rattle.ioa_run.specs.declared.answer.Answer.{Answer}
+use Rattle.ioa_board.specs.declared.answer.Answer.{Answer}
 use Rattle.ioa_run.specs.Attempts.{AttemptsAnswer, IsAttempt, IsCommitted}
-use Rattle.ioa_run.specs.Boards.{Commits, Failure, Intent, Standing}
-use Rattle.ioa_run.specs.Schedules.{Schedule, Spends, intent, plan_of, with_plan}
-use Rattle.ioa_run.specs.Turns.{attempt, not_own, own_attempt}
+use Rattle.ioa_board.specs.Boards.{Commits, Failure, Intent, Standing, intent, attempt, not_own, own_attempt}
+use Rattle.ioa_run.specs.Schedules.{Schedule, Spends, plan_of, with_plan}
 
 pub set_there : {X : Type 0} (xs : List X) (i : ℕ) (x : X) → i < length xs → slice_get (slice_set xs i x) i ≡ Some x
 set_there [] i x l = absurd (omega (arith, l))

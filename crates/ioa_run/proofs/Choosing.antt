@@ -5,7 +5,7 @@ use Rattle.std.specs.Prelude.{slice_get, ◌%◌, ◌≢◌}
 use Rattle.std.specs.Option.{option_map, option_map_or}
 use Rattle.std.proofs.lemmas.List.Elements.{All-filter}
 use Rattle.std.proofs.lemmas.Nat.{mod_below}
-use Rattle.std.proofs.lemmas.Option.{slice_get_past}
+use Rattle.std.proofs.lemmas.Option.{same_Some, slice_get_past}
 use mathlib.Core.Path.{fun_ext}
 use Rattle.ioa_value.specs.Plain.{Val}
 use Rattle.ioa_value.proofs.ItemLemmas.{image_at, item_there}
@@ -19,7 +19,9 @@ use Rattle.ioa_compile.specs.Shown.{entry_code}
 use Rattle.ioa_compile.specs.declared.table.Entry.{Entry}
 use Rattle.ioa_run.specs.Choices.{Chooses, GivesAction}
 use Rattle.ioa_run.specs.Proposers.{action_with, by_code, local_entries, tried}
+use Rattle.ioa_run.specs.Tallies.{IsPick, lost_by}
 use Rattle.ioa_run.specs.Turns.{Proposer, after}
+use Rattle.ioa_run.specs.declared.tally.Pick.{Pick}
 use Rattle.ioa_run.proofs.Counting.{got_all}
 
 -- ---- local entries
@@ -81,3 +83,25 @@ one_there es w count c d e =
     let i = item_there (local_entries es) (w % count) (subst (λ k. w % count < k) c (mod_below w count (omega (arith, d)))) in
     let q : Some i.0 ≡ None = sym i.1 ∙ e in
     cc
+
+-- ---- which entry is picked
+
+pub picks_by : (es : List EntryCode) (s : List Val) (words mid : Words) (number : ℕ) (e : EntryCode) (k : Pick) → number ≡ words 0 % length (local_entries es)
+    → slice_get (local_entries es) number ≡ Some e → mid ≡ after 1 words → k.word ≡ words 0 → k.lost ≡ lost_by e.propose s mid → IsPick es s words k
+picks_by es s words mid number e k n here m word lost = record {
+  word = λ some. word;
+  lost = λ d there.
+      let at : slice_get (local_entries es) number ≡ Some d = ap (slice_get (local_entries es)) n ∙ there in
+      let same : e ≡ d = same_Some e d (sym here ∙ at) in
+      lost ∙ ap (lost_by e.propose s) m ∙ ap (λ (x : EntryCode). lost_by x.propose s (after 1 words)) same;
+}
+
+-- without local entries there is nothing to pick
+pub none_picked : (es : List EntryCode) (s : List Val) (words : Words) (k : Pick) → length (local_entries es) ≡ 0 → IsPick es s words k
+none_picked es s words k none = record {
+  word = λ some. absurd (some none);
+  lost = λ d there.
+      let past = slice_get_past (local_entries es) (words 0 % length (local_entries es)) (omega (arith, none)) in
+      let q : Some d ≡ None = sym there ∙ past in
+      absurd (cc);
+}

@@ -9,13 +9,13 @@ use Rattle.std.proofs.lemmas.Option.{slice_get_within}
 use Rattle.ioa_value.specs.Actions.{Act}
 use Rattle.ioa_tree.specs.Components.{Component}
 use Rattle.ioa_tree.specs.Proposing.{Words, Tried, tries, idle}
-use Rattle.ioa_run.specs.declared.answer.Answer.{Answer}
-use Rattle.ioa_run.specs.declared.report.Report.{Report}
-use Rattle.ioa_run.specs.declared.report.Why.{Why}
+use Rattle.ioa_board.specs.declared.answer.Answer.{Answer}
+use Rattle.ioa_board.specs.declared.report.Report.{Report}
+use Rattle.ioa_board.specs.declared.report.Why.{Why}
 use Rattle.ioa_run.specs.Going.{AreCounted, AreGoing, Counts, IsRefused, dismissed}
-use Rattle.ioa_run.specs.Reports.{blank, counted, left, one_more, unless_done, unless_faulted, with_idle, with_why}
-use Rattle.ioa_run.specs.Boards.{Standing}
-use Rattle.ioa_run.specs.Turns.{Proposer, Turns, attempt, turns_from, has_ended, is_last, meant, rounds, told, turn, turned, turns_of_first, with_done}
+use Rattle.ioa_board.specs.Reports.{blank, counted, left, one_more, unless_done, unless_faulted, with_idle, with_why, told}
+use Rattle.ioa_board.specs.Boards.{Standing, attempt}
+use Rattle.ioa_run.specs.Turns.{Proposer, Turns, turns_from, has_ended, is_last, meant, rounds, turn, turned, turns_of_first, with_done}
 use Rattle.ioa_run.proofs.Turned.{At, at_changed, has_not, here, length_changed, same_items, there}
 
 one_counted : (n : ℕ) → n + 1 < 18446744073709551616 → one_more n ≡ n + 1

@@ -13,18 +13,17 @@ use Rattle.ioa_tree.specs.Proposing.{Words}
 use Rattle.ioa_compile.specs.Programs.{Prog}
 use Rattle.ioa_compile.specs.Tables.{tabled}
 use Rattle.ioa_system.specs.Logs.{log_end}
-use Rattle.ioa_run.specs.declared.outcome.Outcome.{Outcome}
-use Rattle.ioa_run.specs.declared.report.Report.{Report}
-use Rattle.ioa_run.specs.declared.report.Why.{Why}
-use Rattle.ioa_run.specs.Alone.{IsAloneFrom, IsOutcomeFrom, IsFirstOther, IsInput, NoMemory}
-use Rattle.ioa_run.specs.Boards.{Standing}
-use Rattle.ioa_run.specs.Histories.{GoesOn, since}
-use Rattle.ioa_run.specs.Reports.{AreTold}
+use Rattle.ioa_board.specs.declared.outcome.Outcome.{Outcome}
+use Rattle.ioa_board.specs.declared.report.Report.{Report}
+use Rattle.ioa_board.specs.declared.report.Why.{Why}
+use Rattle.ioa_board.specs.ProgramRooms.{IsInput, IsRoom, ProgramRoom, ChangesReport, room_on}
+use Rattle.ioa_run.specs.Alone.{IsAloneFrom, IsOutcomeFrom, IsFirstOther, NoMemory}
+use Rattle.ioa_board.specs.Boards.{Standing}
+use Rattle.ioa_board.specs.Histories.{GoesOn, since}
+use Rattle.ioa_board.specs.Reports.{AreTold, blank, left}
 use Rattle.ioa_run.specs.Going.{AreSettled, Follows, dismissed}
-use Rattle.ioa_run.specs.Outcomes.{HaveEnded, IsLogOf, ending}
-use Rattle.ioa_run.specs.ProgramRooms.{IsRoom, ProgramRoom, ChangesReport, room_on}
+use Rattle.ioa_board.specs.Outcomes.{HaveEnded, IsLogOf, ending}
 use Rattle.ioa_run.specs.Proposers.{proposers, proposers_of}
-use Rattle.ioa_run.specs.Reports.{blank, left}
 use Rattle.ioa_run.specs.Rounds.{Dismisses, GoesRounds}
 use Rattle.ioa_run.specs.Turning.{standing_at}
 use Rattle.ioa_run.specs.Turns.{Turns, turns_from, rounds, alone_from}

@@ -6,13 +6,13 @@ use Rattle.std.proofs.lemmas.List.{length-replicate, length-set}
 use Rattle.ioa_value.specs.Actions.{Act}
 use Rattle.ioa_tree.specs.Components.{Component}
 use Rattle.ioa_tree.specs.Proposing.{Words, tries, idle}
-use Rattle.ioa_run.specs.declared.answer.Answer.{Answer}
-use Rattle.ioa_run.specs.declared.report.Report.{Report}
-use Rattle.ioa_run.specs.declared.report.Why.{Why}
-use Rattle.ioa_run.specs.Boards.{Standing}
-use Rattle.ioa_run.specs.Going.{AreCounted, AreGoing, Follows, IsRefused, IsTurn, dismissed, told_in}
-use Rattle.ioa_run.specs.Reports.{Changes, blank, left, unless_faulted, with_idle, with_why}
-use Rattle.ioa_run.specs.Turns.{Proposer, Turns, after, alone_from, attempt, changed, turns_from, is_last, meant, round, rounds, told, turn, turned, turns_of_first, with_done}
+use Rattle.ioa_board.specs.declared.answer.Answer.{Answer}
+use Rattle.ioa_board.specs.declared.report.Report.{Report}
+use Rattle.ioa_board.specs.declared.report.Why.{Why}
+use Rattle.ioa_board.specs.Boards.{Standing, attempt}
+use Rattle.ioa_board.specs.Reports.{told_in, Changes, blank, left, unless_faulted, with_idle, with_why, told}
+use Rattle.ioa_run.specs.Going.{AreCounted, AreGoing, Follows, IsRefused, IsTurn, dismissed}
+use Rattle.ioa_run.specs.Turns.{Proposer, Turns, after, alone_from, changed, turns_from, is_last, meant, round, rounds, turn, turned, turns_of_first, with_done}
 use Rattle.ioa_run.proofs.Attempting.{set_there}
 use Rattle.ioa_run.proofs.Scheduling.{set_got}
 use Rattle.ioa_run.proofs.Counting.{counted_rounds, dismissed_is, first_counted, first_going, none_refused, refused_dismissed}

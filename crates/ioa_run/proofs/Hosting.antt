@@ -13,11 +13,11 @@ use Rattle.ioa_compile.specs.Subjects.{of_hosts, of_table}
 use Rattle.ioa_compile.specs.Tables.{IsProgram, start_states, tabled}
 use Rattle.ioa_system.specs.Logs.{Logged}
 use Rattle.ioa_run.specs.Alone.{IsAloneFrom, turns_since}
-use Rattle.ioa_run.specs.Boards.{IsSound, Standing}
+use Rattle.ioa_board.specs.Boards.{IsSound, Standing}
 use Rattle.ioa_run.specs.Hosts.{Held}
-use Rattle.ioa_run.specs.Resuming.{resumption}
+use Rattle.ioa_board.specs.Resuming.{resumption}
 use Rattle.ioa_run.specs.Subjects.{AreResumed, BoardsLike, IsAloneAs, ResumedLike, TurnsLike}
-use Rattle.ioa_run.specs.declared.outcome.Outcome.{Outcome}
+use Rattle.ioa_board.specs.declared.outcome.Outcome.{Outcome}
 use Rattle.ioa_run.proofs.Subjects as of_any
 use Rattle.ioa_run.proofs.Subjects.{same_alone, same_resumption, same_turns, subject_history}
 

@@ -1,5 +1,5 @@
 -- There are as many states as components: after each step, after a legal history, and when a log is resumed.
-use Rattle.std.proofs.Common.{◌≡◌, ℕ, suc, ◌+◌, List, [], ◌∷◌, length, Bool, true, false, cond, Result, Ok, Err, refl, sym, ◌∙◌, ap, arith, map}
+use Rattle.std.proofs.Common.{◌≡◌, ℕ, suc, ◌+◌, List, [], ◌∷◌, length, Bool, true, false, cond, Result, Ok, Err, refl, sym, ◌∙◌, ap, arith}
 use Rattle.std.specs.List.{list_any}
 use Rattle.std.proofs.lemmas.List.{length-map}
 use Rattle.ioa_arithmetic.specs.declared.arithmetic.Fault.{Fault}
@@ -14,9 +14,9 @@ use Rattle.ioa_compile.specs.Subjects.{State, Subject, its_components, its_start
 use Rattle.ioa_compile.specs.Tables.{table_component}
 use Rattle.ioa_system.specs.Histories.{Leads}
 use Rattle.ioa_system.specs.Logs.{Logged}
-use Rattle.ioa_run.specs.Boards.{Standing}
-use Rattle.ioa_run.specs.Resuming.{resumption}
-use Rattle.ioa_run.proofs.Resumed.{resumed_goes}
+use Rattle.ioa_board.specs.Boards.{Standing}
+use Rattle.ioa_board.specs.Resuming.{resumption}
+use Rattle.ioa_board.proofs.Resumed.{resumed_goes}
 
 long_with : {S : Type 0} (s : S) (m : Moved S) (n : ℕ) → ((ts : List S) → m ≡ next ts → length ts ≡ n) → (us : List S) → with_state s m ≡ next us → length us ≡ suc n
 long_with s (next ts) n h us e = let q : s ∷ ts ≡ us = cc in ap length (sym q) ∙ ap suc (h ts refl)

@@ -1,18 +1,8 @@
-pub mod Numbers
-pub mod Performing
-pub mod Making
-pub mod Committing
 pub mod Scheduling
 pub mod Once
-pub mod Since
-pub mod Telling
-pub mod Finishing
 pub mod Attempting
 pub mod Turned
 pub mod Counting
-pub mod Tried
-pub mod Attempted
-pub mod TellingAttempts
 pub mod Going
 pub mod Settled
 pub mod Choosing
@@ -33,3 +23,5 @@ pub mod Unresumed
 pub mod Playing
 pub mod Lengths
 pub mod ResumedLike
+pub mod Tallying
+pub mod Adding

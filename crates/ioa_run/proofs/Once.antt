@@ -4,9 +4,9 @@ use Rattle.std.specs.Prelude.{IsSome}
 use Rattle.ioa_tree.specs.Components.{Component}
 use Rattle.ioa_tree.specs.Steps.{Moved, next, not_an_action, not_enabled, fault, step}
 use Rattle.ioa_system.specs.Logs.{worker}
-use Rattle.ioa_run.specs.declared.answer.Answer.{Answer}
-use Rattle.ioa_run.specs.Boards.{Commits, Failure, Intent, Standing, with_entry, with_failure}
-use Rattle.ioa_run.specs.Schedules.{Answers, Event, Plans, Plays, Schedule, Spends, commit, copy, intent, plan_of, with_plan}
+use Rattle.ioa_board.specs.declared.answer.Answer.{Answer}
+use Rattle.ioa_board.specs.Boards.{Commits, Failure, Intent, Standing, with_entry, with_failure, Plans, intent}
+use Rattle.ioa_run.specs.Schedules.{Answers, Event, Plays, Schedule, Spends, commit, copy, plan_of, with_plan}
 
 module _ {S : Type 0} (w own : ℕ) (m : Moved S) (p : Intent S) where
   plans_once : (a b : Answer) (q r : Option (Intent S)) → Plans w own m p a q → Plans w own m p b r → (a ≡ b) × (q ≡ r)

@@ -12,14 +12,14 @@ use Rattle.ioa_tree.specs.Proposing.{Words, Tried, tries, idle}
 use Rattle.ioa_compile.specs.Programs.{MemberCode}
 use Rattle.ioa_compile.specs.Subjects.{State, Subject, its_components, its_starts, of_composition, of_hosts, of_table}
 use Rattle.ioa_system.specs.Logs.{Logged}
-use Rattle.ioa_run.specs.declared.answer.Answer.{Answer}
+use Rattle.ioa_board.specs.declared.answer.Answer.{Answer}
 use Rattle.ioa_run.specs.Attempts.{IsAttempt}
-use Rattle.ioa_run.specs.Boards.{Intent, Standing}
+use Rattle.ioa_board.specs.Boards.{Intent, Standing, attempt}
 use Rattle.ioa_run.specs.Played.{AlonePlays, NeverStale, PlaysAs, alone_events, attempt_events, first_events, played, rounds_events, tried_events, turn_events}
 use Rattle.ioa_run.specs.Proposers.{host_proposers_of, its_proposers, member_proposers_of, proposers_of}
-use Rattle.ioa_run.specs.Resuming.{resumption}
+use Rattle.ioa_board.specs.Resuming.{resumption}
 use Rattle.ioa_run.specs.Schedules.{Answers, Event, Schedule, Spends, commit, copy, plan_of, schedule_from, with_plan}
-use Rattle.ioa_run.specs.Turns.{Proposer, Turns, alone_from, attempt, has_ended, meant, rounds, turned, turns_from, turns_of_first}
+use Rattle.ioa_run.specs.Turns.{Proposer, Turns, alone_from, has_ended, meant, rounds, turned, turns_from, turns_of_first}
 use Rattle.ioa_run.proofs.Attempting.{attempt_answers}
 use Rattle.ioa_run.proofs.Lengths.{component_for_each, resumed_long}
 use Rattle.ioa_run.proofs.Scheduling.{set_got, set_over}

@@ -7,15 +7,15 @@ use Rattle.ioa_tree.specs.Steps.{Moved, step}
 use Rattle.ioa_compile.specs.Subjects.{its_components, its_starts}
 use Rattle.ioa_system.specs.Histories.{Leads}
 use Rattle.ioa_system.specs.Logs.{worker}
-use Rattle.ioa_run.specs.declared.answer.Answer.{Answer}
-use Rattle.ioa_run.specs.Boards.{Commits, Failure, Intent, IsFailureFrom, IsSound, Standing}
-use Rattle.ioa_run.specs.Histories.{GoesOn, since}
+use Rattle.ioa_board.specs.declared.answer.Answer.{Answer}
+use Rattle.ioa_board.specs.Boards.{Commits, Failure, Intent, IsFailureFrom, IsSound, Standing, Plans, intent}
+use Rattle.ioa_board.specs.Histories.{GoesOn, since}
 use Rattle.ioa_run.specs.Resuming.{PlaysGoOn}
-use Rattle.ioa_run.specs.Schedules.{Answers, Event, Plans, Plays, Schedule, Spends, commit, copy, intent, plan_of, schedule_from, with_plan}
-use Rattle.ioa_run.proofs.Performing.{legal_more}
-use Rattle.ioa_run.proofs.Resumed.{resumed_goes}
+use Rattle.ioa_run.specs.Schedules.{Answers, Event, Plays, Schedule, Spends, commit, copy, plan_of, schedule_from}
+use Rattle.ioa_board.proofs.Performing.{legal_more}
+use Rattle.ioa_board.proofs.Resumed.{resumed_goes}
 use Rattle.ioa_run.proofs.Scheduling.{got_set}
-use Rattle.ioa_run.proofs.Since.{nothing_new, since_more}
+use Rattle.ioa_board.proofs.Since.{nothing_new, since_more}
 
 module _ {S : Type 0} (ps : List (Component S)) (start : List S) (before : List (ℕ × Act)) where
   -- what holds of a schedule along the way: also that each plan is of an action of its worker

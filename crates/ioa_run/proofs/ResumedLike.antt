@@ -1,15 +1,14 @@
 -- Logs are resumed alike by components that step alike.
-use Rattle.std.proofs.Common.{◌≡◌, ℕ, ◌+◌, ◌==◌, Bool, true, false, List, [], ◌∷◌, length, Result, Ok, Err, refl, sym, ap, arith}
+use Rattle.std.proofs.Common.{◌≡◌, ℕ, ◌+◌, ◌==◌, Bool, true, false, List, [], ◌∷◌, length, Result, Ok, Err, refl, ap}
 use Rattle.ioa_value.specs.Actions.{Act}
 use Rattle.ioa_tree.specs.Components.{Component}
 use Rattle.ioa_tree.specs.Likes.{AllRelated, MovesLike}
 use Rattle.ioa_tree.specs.Runs.{Ending, done, not_an_action_at, not_enabled_at, fault_at}
 use Rattle.ioa_tree.specs.Steps.{step}
 use Rattle.ioa_system.specs.Logs.{Logged, worker}
-use Rattle.ioa_run.specs.Boards.{Standing, begun}
-use Rattle.ioa_run.specs.Resuming.{counted_as, ended_as, followed, is_committed, resumption, then_follow}
+use Rattle.ioa_board.specs.Boards.{Standing, begun, attempt}
+use Rattle.ioa_board.specs.Resuming.{counted_as, ended_as, followed, is_committed, resumption, then_follow}
 use Rattle.ioa_run.specs.Subjects.{BoardsLike, ResumedLike}
-use Rattle.ioa_run.specs.Turns.{attempt}
 use Rattle.ioa_run.proofs.Alike.{attempt_like}
 
 module _ {S T : Type 0} (R : ℕ → S → T → Type 0) where

@@ -12,14 +12,14 @@ use Rattle.ioa_tree.specs.Proposing.{Words, Tried, tries, idle}
 use Rattle.ioa_tree.specs.Runs.{Ending, done, not_an_action_at, not_enabled_at, fault_at}
 use Rattle.ioa_tree.specs.Steps.{Moved, next, not_an_action, not_enabled, fault, step}
 use Rattle.ioa_system.specs.Logs.{worker}
-use Rattle.ioa_run.specs.declared.answer.Answer.{Answer}
-use Rattle.ioa_run.specs.declared.report.Report.{Report}
-use Rattle.ioa_run.specs.declared.report.Why.{Why}
-use Rattle.ioa_run.specs.Boards.{Failure, Standing}
+use Rattle.ioa_board.specs.declared.answer.Answer.{Answer}
+use Rattle.ioa_board.specs.declared.report.Report.{Report}
+use Rattle.ioa_board.specs.declared.report.Why.{Why}
+use Rattle.ioa_board.specs.Boards.{Failure, Standing, attempt, not_own, own_attempt}
 use Rattle.ioa_run.specs.Going.{AreCounted, AreSettled, HasFewer, HaveCauses, HaveFewer, IsCause, IsTurn, dismissed}
-use Rattle.ioa_run.specs.Outcomes.{HasEnded, HaveEnded, IsFault, IsReason, ending}
-use Rattle.ioa_run.specs.Reports.{Changes, counted, left, with_idle, with_why}
-use Rattle.ioa_run.specs.Turns.{Proposer, Turns, attempt, turns_from, is_last, meant, not_own, own_attempt, told, turned}
+use Rattle.ioa_board.specs.Outcomes.{HasEnded, HaveEnded, IsFault, IsReason, ending}
+use Rattle.ioa_board.specs.Reports.{Changes, counted, left, with_idle, with_why, told}
+use Rattle.ioa_run.specs.Turns.{Proposer, Turns, turns_from, is_last, meant, turned}
 use Rattle.ioa_run.proofs.Attempting.{set_there}
 use Rattle.ioa_run.proofs.Counting.{counted_turned, first_counted, first_going, got_replicated, left_done, no_turn}
 use Rattle.ioa_run.proofs.Going.{left_memory, other_there}

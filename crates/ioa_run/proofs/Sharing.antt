@@ -23,8 +23,8 @@ use Rattle.ioa_value.specs.contracts.value.Ty as Ty
 use Rattle.ioa_value.specs.contracts.value.Value as Value
 use Rattle.ioa_value.proofs.types.Types.TheSendSync as types
 use Rattle.ioa_value.proofs.value.Value.TheLaws.TheKnot as values
-use Rattle.ioa_compose.specs.contracts.index.Index as Index
-use Rattle.ioa_compose.proofs.index.Index.TheSendSync as index
+use Rattle.ioa_clash.specs.contracts.index.Index as Index
+use Rattle.ioa_clash.proofs.index.Index.TheSendSync as index
 use Rattle.ioa_code.specs.contracts.instr.Code as Code
 use Rattle.ioa_code.specs.contracts.instr.Instr as Instr
 use Rattle.ioa_code.specs.contracts.verified.Verified as Verified
@@ -35,12 +35,13 @@ use Rattle.ioa_compile.specs.contracts.sites.Site as Site
 use Rattle.ioa_compile.specs.contracts.table.Entry as Entry
 use Rattle.ioa_compile.specs.contracts.table.Member as Member
 use Rattle.ioa_system.specs.contracts.log.LogEntry as LogEntry
-use Rattle.ioa_run.specs.contracts.board.Board as Board
+use Rattle.ioa_board.specs.contracts.board.Board as Board
 use Rattle.ioa_run.specs.contracts.crew.Crew as Crew
 use Rattle.ioa_run.specs.contracts.own_room.OwnRoom as OwnRoom
 use Rattle.ioa_run.specs.contracts.own_room.OwnRoom.TheInside as Inside
-use Rattle.ioa_run.specs.contracts.recorded.Recorded as Recorded
-use Rattle.ioa_run.specs.contracts.room.Room as Room
+use Rattle.ioa_board.specs.contracts.recorded.Recorded as Recorded
+use Rattle.ioa_board.specs.contracts.room.Room as Room
+use Rattle.ioa_run.specs.contracts.tally.Tally as Tally
 use Rattle.ioa_run.specs.declared.own_room.Terms as Terms
 
 -- ---- values and types
@@ -127,6 +128,9 @@ room_send a = search (action_sync, board_send, crosses, sendable) depth 30
 pub input_sync : IsSync Action.the_row
 input_sync = search (action_sync, sendable) depth 20
 
+tally_send : IsSend (Tally.the_field).row
+tally_send = search (crosses, sendable) depth 20
+
 -- ---- closures
 
 captured_send : (Ts : List RattleType) → AllSend Ts → FieldsHave IsSend (parts Ts)
@@ -140,7 +144,7 @@ closure_send ν Ts s = declared_send (type_at ν Ts) (captured_send Ts s)
 
 module _ (a : NamedLft) (T : RattleType) (g : Terms.Ghosts T.Denot) where
   inside_send : IsSend (Inside.the_row a T g)
-  inside_send = declared_send (Inside.the_type a T g) (as_row_send (Room.the_field a) (room_send a), (as_row_send (PhantomData.the_field T) (phantom.the_field_send T), tt))
+  inside_send = declared_send (Inside.the_type a T g) (as_row_send (Room.the_field a) (room_send a), (search (tally_send, crosses, sendable) depth 20, (as_row_send (PhantomData.the_field T) (phantom.the_field_send T), tt)))
 
   own_room_send : IsSend (OwnRoom.the_row a T g)
   own_room_send = view_send (Inside.the_row a T g) _ _ _ _ inside_send

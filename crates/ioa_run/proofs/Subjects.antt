@@ -21,8 +21,8 @@ use Rattle.ioa_tree.specs.declared.tree.Kind.TheVariants.{Input, Output, Interna
 use Rattle.ioa_tree.specs.Components.{Component, is_local}
 use Rattle.ioa_tree.specs.Compositions.{Composed, Member, automaton_named}
 use Rattle.ioa_tree.specs.Domains.{AreDomainsOf}
-use Rattle.ioa_tree.specs.Hosts.{AreHosts, Host, HostState, Hosted, host_of, host_start, host_state}
-use Rattle.ioa_tree.specs.Instances.{component_of, field_names, state_of, variable_names}
+use Rattle.ioa_tree.specs.Hosts.{AreHosts, Host, HostState, Hosted, host_state}
+use Rattle.ioa_tree.specs.Instances.{field_names, variable_names}
 use Rattle.ioa_tree.specs.Likes.{AllRelated, MovesLike}
 use Rattle.ioa_tree.specs.Meaning.{Env, values_of}
 use Rattle.ioa_tree.specs.Proposing.{Words, proposed}
@@ -32,9 +32,9 @@ use Rattle.ioa_tree.specs.Tree.{CrashTree, AutomatonTree, EntryTree, InstanceTre
 use Rattle.ioa_tree.specs.Types.{types_of}
 use Rattle.ioa_tree.specs.WellFormed.{global_names}
 use Rattle.ioa_tree.proofs.FineParts.{fine_parts}
-use Rattle.ioa_compose.specs.Rewriting.{signals, with_signals}
+use Rattle.ioa_crash.specs.Rewriting.{signals, with_signals}
 use Rattle.ioa_compose.specs.Simulates.{SlotsHold, IsMadeOf, Simulates, TellsUp}
-use Rattle.ioa_compose.proofs.SignatureLemmas.{zip-at, zip-to}
+use Rattle.ioa_clash.proofs.ZipLemmas.{zip-at, zip-to}
 use Rattle.ioa_compose.proofs.SourceLemmas.{named_fine}
 use Rattle.ioa_compile.specs.CodeEnds.{ProposalEnds}
 use Rattle.ioa_compile.specs.Correspondence.{Corresponds, CorrespondsAt, CorrespondsIn}
@@ -42,7 +42,7 @@ use Rattle.ioa_compile.specs.Matching.{MatchesEntry, MatchesMember}
 use Rattle.ioa_compile.specs.Implements.{Implements}
 use Rattle.ioa_compile.specs.Programs.{EntryCode, MemberCode, Prog}
 use Rattle.ioa_compile.specs.Subjects.{HoldsIn, HoldsTyped, InSlots, RunsAs, State, Subject, its_components, its_names, its_starts, of_composition, of_hosts, of_table}
-use Rattle.ioa_compile.specs.Tables.{AreEntries, AreMembers, HasPropose, IsEntry, IsMember, IsProgram, start_states, table_component, tabled}
+use Rattle.ioa_compile.specs.Tables.{AreEntries, AreMembers, HasPropose, IsEntry, IsMember, IsProgram, start_states, tabled}
 use Rattle.ioa_compile.proofs.HostEntries.{entries_are_the_hosts}
 use Rattle.ioa_compile.proofs.Subjects.{as_many, does_as, participants_as, step_as}
 use Rattle.ioa_node.specs.Nodes.{Node}
@@ -51,25 +51,25 @@ use Rattle.ioa_system.specs.declared.log.LogEnd.{LogEnd}
 use Rattle.ioa_system.specs.declared.log.LogEntry.{LogEntry}
 use Rattle.ioa_system.proofs.Subjects.{worker_as}
 use Rattle.ioa_run.specs.Alone.{turns_since}
-use Rattle.ioa_run.specs.Boards.{Failure, IsFailureFrom, IsSound, Standing}
-use Rattle.ioa_run.specs.Histories.{GoesOn, acts_of, since}
-use Rattle.ioa_run.specs.Outcomes.{IsLogOf, ending, logged}
-use Rattle.ioa_run.specs.Planning.{answer_of, intent_of}
+use Rattle.ioa_board.specs.Boards.{Failure, IsFailureFrom, IsSound, Standing}
+use Rattle.ioa_board.specs.Histories.{GoesOn, acts_of, since}
+use Rattle.ioa_board.specs.Outcomes.{IsLogOf, ending, logged}
+use Rattle.ioa_board.specs.Planning.{answer_of, intent_of}
 use Rattle.ioa_run.specs.Played.{events_since}
 use Rattle.ioa_run.specs.Proposers.{by_code, by_entry, filled, filled_in, host_proposers_of, its_proposers, member_proposers_of, proposers, proposers_of}
-use Rattle.ioa_run.specs.Reports.{AreTold}
-use Rattle.ioa_run.specs.Resuming.{resumption}
+use Rattle.ioa_board.specs.Reports.{AreTold}
+use Rattle.ioa_board.specs.Resuming.{resumption}
 use Rattle.ioa_run.specs.Subjects.{AreApart, AreResumed, BoardsLike, HostsApart, IsLogAs, ProgramHistory, ProgramSchedule, ResumedLike, SameAlone, SameCopy, SameEvents, SameOutcome, SameResumption, SameTurns, SubjectHistory, SubjectSchedule, TurnsLike}
-use Rattle.ioa_run.specs.declared.run_err.RunErr.{RunErr}
+use Rattle.ioa_board.specs.declared.run_err.RunErr.{RunErr}
 use Rattle.ioa_run.specs.Turns.{Proposer, after}
 use Rattle.ioa_run.proofs.Alike.{Both, OneLike, ProposeLike, alone_like, events_like, sound_back, sound_on}
 use Rattle.ioa_run.proofs.AlikeSchedules.{copy_like, schedules_back, schedules_on}
-use Rattle.ioa_run.proofs.Finishing.{faulted_last}
+use Rattle.ioa_board.proofs.Finishing.{faulted_last}
 use Rattle.ioa_run.proofs.HostProposals.{by_alike, filled_alike}
 use Rattle.ioa_run.proofs.Lengths.{resumed_long}
-use Rattle.ioa_run.proofs.Performing.{legal_run}
+use Rattle.ioa_board.proofs.Performing.{legal_run}
 use Rattle.ioa_run.proofs.ResumedLike.{resumption_like}
-use Rattle.ioa_run.proofs.Scheduling.{planned_now}
+use Rattle.ioa_board.proofs.PlannedNow.{planned_now}
 
 some_same : {X : Type 0} (o : Option X) (x y : X) → o ≡ Some x → o ≡ Some y → x ≡ y
 some_same o x y e f = let g : Some x ≡ Some y = sym e ∙ f in cc

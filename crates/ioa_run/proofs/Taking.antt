@@ -8,13 +8,13 @@ use Rattle.ioa_value.specs.Actions.{Act}
 use Rattle.ioa_value.specs.Plain.{Val}
 use Rattle.ioa_tree.specs.Proposing.{Words}
 use Rattle.ioa_compile.specs.Tables.{tabled}
-use Rattle.ioa_run.specs.declared.report.Why.{Why}
+use Rattle.ioa_board.specs.declared.report.Why.{Why}
 use Rattle.ioa_run.specs.declared.turn.TurnEnd.{TurnEnd}
-use Rattle.ioa_run.specs.Boards.{Standing}
+use Rattle.ioa_board.specs.Boards.{Standing}
 use Rattle.ioa_run.specs.Going.{AreSettled, Follows, IsTurn}
-use Rattle.ioa_run.specs.ProgramRooms.{ProgramRoom, ChangesReport}
+use Rattle.ioa_board.specs.ProgramRooms.{ProgramRoom, ChangesReport}
 use Rattle.ioa_run.specs.Proposers.{proposers, proposers_of}
-use Rattle.ioa_run.specs.Reports.{left, with_idle}
+use Rattle.ioa_board.specs.Reports.{left, with_idle}
 use Rattle.ioa_run.specs.Rounds.{GoesFirst, GoesRound, GoesRounds}
 use Rattle.ioa_run.specs.Turning.{Acts, Attempts, HasPerformed, Refused, Takes, Took, Wishes, ends, standing_at}
 use Rattle.ioa_run.specs.Turns.{Turns, turns_of_first}

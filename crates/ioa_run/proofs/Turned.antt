@@ -6,12 +6,13 @@ use Rattle.std.proofs.lemmas.Bool.Decides.{eqb_tells}
 use Rattle.ioa_value.specs.Actions.{Act}
 use Rattle.ioa_tree.specs.Components.{Component}
 use Rattle.ioa_tree.specs.Proposing.{Tried, tries, idle}
-use Rattle.ioa_run.specs.declared.answer.Answer.{Answer}
-use Rattle.ioa_run.specs.declared.report.Report.{Report}
-use Rattle.ioa_run.specs.declared.report.Why.{Why}
+use Rattle.ioa_board.specs.declared.answer.Answer.{Answer}
+use Rattle.ioa_board.specs.declared.report.Report.{Report}
+use Rattle.ioa_board.specs.declared.report.Why.{Why}
 use Rattle.ioa_run.specs.Going.{AreGoing}
-use Rattle.ioa_run.specs.Reports.{Changes, resumed, with_idle}
-use Rattle.ioa_run.specs.Turns.{Proposer, Turns, attempt, changed, has_ended, is_last, meant, rounds, told, turn, turned, turns_of_first}
+use Rattle.ioa_board.specs.Reports.{Changes, resumed, with_idle, told}
+use Rattle.ioa_board.specs.Boards.{attempt}
+use Rattle.ioa_run.specs.Turns.{Proposer, Turns, changed, has_ended, is_last, meant, rounds, turn, turned, turns_of_first}
 
 -- ---- one item is changed
 

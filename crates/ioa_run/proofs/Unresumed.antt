@@ -1,7 +1,5 @@
 -- Why a log is not resumed.
-use Rattle.std.proofs.Common.{◌≡◌, ◌≢◌, ◌⊎◌, ◌↔◌, ℕ, zero, suc, ◌+◌, ◌==◌, Bool, true, false, List, [], ◌∷◌, ◌++◌, length, Option, None, Some, Result, Ok, Err, inl, inr, refl, sym, ap, subst, ◌∙◌, arith, take}
-use Rattle.std.specs.Prelude.{slice_get}
-use Rattle.std.proofs.lemmas.Bool.Decides.{nat_tests}
+use Rattle.std.proofs.Common.{◌≡◌, ◌≢◌, ◌⊎◌, ◌↔◌, ℕ, zero, suc, ◌+◌, ◌==◌, Bool, true, false, List, [], ◌∷◌, ◌++◌, length, Result, Ok, Err, inl, inr, refl, sym, ap, subst, ◌∙◌, arith, take}
 use Rattle.ioa_value.specs.Actions.{Act}
 use Rattle.ioa_tree.specs.Components.{Component}
 use Rattle.ioa_tree.specs.Runs.{Ending, done, fault_at}
@@ -10,12 +8,13 @@ use Rattle.ioa_compile.specs.Subjects.{its_components, its_starts}
 use Rattle.ioa_system.specs.Histories.{Leads}
 use Rattle.ioa_system.specs.declared.log.LogEnd.{LogEnd}
 use Rattle.ioa_system.specs.Logs.{Logged, log_end, worker}
-use Rattle.ioa_run.specs.declared.run_err.RunErr.{RunErr}
-use Rattle.ioa_run.specs.Boards.{Standing, begun}
-use Rattle.ioa_run.specs.Outcomes.{IsFault}
-use Rattle.ioa_run.specs.Resuming.{IsBadEntry, IsMiscounted, IsUnresumed, LogsAreRefused, counted_as, ended_as, followed, is_committed, resumption, then_follow}
-use Rattle.ioa_run.specs.Turns.{attempt}
-use Rattle.ioa_run.proofs.Resumed.{calmly, equal, leads_followed, performs, same}
+use Rattle.ioa_board.specs.declared.run_err.RunErr.{RunErr}
+use Rattle.ioa_board.specs.Boards.{Standing, attempt}
+use Rattle.ioa_board.specs.Outcomes.{IsFault}
+use Rattle.ioa_board.specs.Resuming.{counted_as, followed, is_committed, resumption, then_follow}
+use Rattle.ioa_run.specs.Resuming.{IsBadEntry, IsUnresumed, LogsAreRefused}
+use Rattle.ioa_board.proofs.Resumed.{equal, performs, same}
+use Rattle.ioa_run.proofs.Resumed.{calmly, leads_followed}
 
 module _ {S : Type 0} (ps : List (Component S)) where
   abbrev tells : ℕ × Act → List (ℕ × Act) → List S → Bool

@@ -20,8 +20,8 @@ use Rattle.ioa_system.specs.Systems.{Slots, slot_types, slots_of, types_of}
 use Rattle.ioa_system.proofs.Finding.{no_item}
 use Rattle.ioa_system.proofs.Participating.{taken_some}
 use Rattle.ioa_run.specs.Choices.{AreOfState, Chooses, IsOfState}
-use Rattle.ioa_run.specs.Histories.{count}
-use Rattle.ioa_run.specs.ProgramRooms.{ProgramRoom, new_in}
+use Rattle.ioa_board.specs.Histories.{count}
+use Rattle.ioa_board.specs.ProgramRooms.{ProgramRoom, new_in}
 use Rattle.ioa_run.specs.Proposers.{proposers, proposers_of, tried}
 use Rattle.ioa_run.specs.Turning.{HasPerformed, Wishes}
 use Rattle.ioa_run.specs.Turns.{after, next_choice, next_input}

@@ -1,25 +1,25 @@
 -- A run on one thread of the workers of whatever a program runs as, and what it gives.
-use Rattle.std.specs.Prelude.{◌≡◌, ◌≢◌, ◌≤◌, ◌<◌, ℕ, List, [], None, Some, All, Result, Ok, Err, length, slice_get}
+use Rattle.std.specs.Prelude.{◌≡◌, ◌≢◌, ◌≤◌, ◌<◌, ℕ, List, Some, All, Result, Ok, Err, length, slice_get}
 use Rattle.ioa_value.specs.Actions.{Act}
 use Rattle.ioa_value.specs.Plain.{Val}
 use Rattle.ioa_tree.specs.Components.{Component}
 use Rattle.ioa_tree.specs.Proposing.{Words}
-use Rattle.ioa_tree.specs.Steps.{owner, participants}
 use Rattle.ioa_compile.specs.Programs.{Prog}
 use Rattle.ioa_compile.specs.Subjects.{State, Subject, its_components}
 use Rattle.ioa_compile.specs.Tables.{start_states, tabled}
 use Rattle.ioa_system.specs.Logs.{Logged}
-use Rattle.ioa_run.specs.Boards.{Standing, begun}
-use Rattle.ioa_run.specs.Histories.{GoesOn, since}
-use Rattle.ioa_run.specs.Resuming.{resumption}
-use Rattle.ioa_run.specs.Outcomes.{IsLogOf}
+use Rattle.ioa_board.specs.Boards.{Standing, begun}
+use Rattle.ioa_board.specs.Histories.{GoesOn, since}
+use Rattle.ioa_board.specs.Resuming.{resumption}
+use Rattle.ioa_board.specs.Outcomes.{IsLogOf}
 use Rattle.ioa_run.specs.Proposers.{its_proposers, proposers}
-use Rattle.ioa_run.specs.Reports.{AreTold}
+use Rattle.ioa_board.specs.Reports.{AreTold}
 use Rattle.ioa_run.specs.Turns.{Turns, alone_from}
-use Rattle.ioa_run.specs.declared.outcome.Outcome.{Outcome}
-use Rattle.ioa_run.specs.declared.report.Report.{Report}
-use Rattle.ioa_run.specs.declared.report.Why.{Why}
-use Rattle.ioa_run.specs.declared.run_err.RunErr.{RunErr}
+use Rattle.ioa_board.specs.declared.outcome.Outcome.{Outcome}
+use Rattle.ioa_board.specs.declared.report.Report.{Report}
+use Rattle.ioa_board.specs.declared.report.Why.{Why}
+use Rattle.ioa_board.specs.declared.run_err.RunErr.{RunErr}
+use Rattle.ioa_board.specs.ProgramRooms.{IsInput}
 
 -- turns of all workers on one thread since this board, so many rounds of them: in each round the components in order, each by its own words, and then the
 -- environment
@@ -58,11 +58,6 @@ IsAloneSince p log words inputs turns o =
     (b : Standing (List Val)) × (resumption (tabled p) (start_states p) log ≡ Ok b) × IsAloneFrom p b words inputs turns o
 
 -- ---- when there is none
-
--- an input of the composition: a component has the action, and none owns it
-pub record IsInput {S : Type 0} (ps : List (Component S)) (a : Act) : Type 0 where
-  pub known : participants ps a ≢ []
-  pub free : owner ps a ≡ None
 
 -- the first action that is none
 pub record IsFirstOther {S : Type 0} (ps : List (Component S)) (inputs : List Act) (i : ℕ) : Type 0 where

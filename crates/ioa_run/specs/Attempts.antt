@@ -3,10 +3,9 @@ use Rattle.std.specs.Prelude.{◌≡◌, ◌<◌, ℕ, List, length}
 use Rattle.ioa_value.specs.Actions.{Act}
 use Rattle.ioa_value.specs.Plain.{Val}
 use Rattle.ioa_tree.specs.Components.{Component}
-use Rattle.ioa_run.specs.Boards.{Standing}
+use Rattle.ioa_board.specs.Boards.{Standing, attempt}
 use Rattle.ioa_run.specs.Schedules.{Answers, Schedule, commit, copy}
-use Rattle.ioa_run.specs.Turns.{attempt}
-use Rattle.ioa_run.specs.declared.answer.Answer.{Answer}
+use Rattle.ioa_board.specs.declared.answer.Answer.{Answer}
 
 -- the copy is refused so, and no board changes
 abbrev pub IsRefused : {S : Type 0} → List (Component S) → ℕ → Act → Schedule S → Answer → Standing S → Type 0

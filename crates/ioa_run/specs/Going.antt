@@ -2,12 +2,11 @@
 use Rattle.std.specs.Prelude.{◌≡◌, ◌≢◌, ◌⊎◌, ◌+◌, ◌<◌, ◌≤◌, ℕ, List, Bool, true, false, Option, Some, IsSome, cond, length, slice_get, unwrap_or}
 use Rattle.ioa_tree.specs.Components.{Component}
 use Rattle.ioa_value.specs.Actions.{Act}
-use Rattle.ioa_run.specs.declared.answer.Answer.{Answer}
-use Rattle.ioa_run.specs.declared.report.Report.{Report}
-use Rattle.ioa_run.specs.declared.report.Why.{Why}
-use Rattle.ioa_run.specs.Boards.{Failure}
-use Rattle.ioa_run.specs.Reports.{counted, left}
-use Rattle.ioa_run.specs.Turns.{Proposer, Turns, meant, told, turned}
+use Rattle.ioa_board.specs.declared.report.Report.{Report}
+use Rattle.ioa_board.specs.declared.report.Why.{Why}
+use Rattle.ioa_board.specs.Boards.{Failure}
+use Rattle.ioa_board.specs.Reports.{counted, left}
+use Rattle.ioa_run.specs.Turns.{Proposer, Turns, meant, turned}
 
 -- the report of whoever takes more turns says no other thing
 abbrev pub AreGoing : {S : Type 0} → Turns S → Type 0
@@ -20,18 +19,6 @@ pub record IsRefused (rs : List Report) (es : List Bool) : Type 0 where
   pub there : slice_get rs worker ≡ Some report
   pub memory : report.why ≡ Why.Memory
   pub ended : slice_get es worker ≡ Some true
-
--- what an answer changes in a report, where each worker has so many turns: who is stopped leaves
-abbrev pub told_in : ℕ → Answer → Report → Report
-told_in turns Answer.Stopped r = left turns Why.Stopped r
-told_in turns (Answer.Committed n) r = told (Answer.Committed n) r
-told_in turns (Answer.Faulted c f) r = told (Answer.Faulted c f) r
-told_in turns Answer.NotAnAction r = told Answer.NotAnAction r
-told_in turns Answer.NotYours r = told Answer.NotYours r
-told_in turns Answer.NotEnabled r = told Answer.NotEnabled r
-told_in turns Answer.Planned r = told Answer.Planned r
-told_in turns Answer.NoPlan r = told Answer.NoPlan r
-told_in turns Answer.Stale r = told Answer.Stale r
 
 -- whether and how a worker is told that its turns are done, where each has so many
 abbrev pub dismissed : ℕ → List Bool → ℕ → Report → Report

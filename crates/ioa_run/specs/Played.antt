@@ -6,12 +6,12 @@ use Rattle.ioa_tree.specs.Proposing.{Words, Tried, tries, idle}
 use Rattle.ioa_compile.specs.Subjects.{State, Subject, its_components, its_starts}
 use Rattle.ioa_system.specs.Logs.{Logged}
 use Rattle.ioa_run.specs.Alone.{turns_since}
-use Rattle.ioa_run.specs.Boards.{Standing}
+use Rattle.ioa_board.specs.Boards.{Standing, attempt}
 use Rattle.ioa_run.specs.Proposers.{its_proposers}
-use Rattle.ioa_run.specs.Resuming.{resumption}
+use Rattle.ioa_board.specs.Resuming.{resumption}
 use Rattle.ioa_run.specs.Schedules.{Event, Plays, Schedule, commit, copy, schedule_from}
-use Rattle.ioa_run.specs.Turns.{Proposer, Turns, attempt, has_ended, meant, rounds, turns_from, turns_of_first}
-use Rattle.ioa_run.specs.declared.answer.Answer.{Answer}
+use Rattle.ioa_run.specs.Turns.{Proposer, Turns, has_ended, meant, rounds, turns_from, turns_of_first}
+use Rattle.ioa_board.specs.declared.answer.Answer.{Answer}
 
 -- the events of a worker's attempt that is answered so: it copies and, where it can plan the action, commits at once
 abbrev pub attempt_events : ℕ → Act → Answer → List (Event × Answer)

@@ -2,7 +2,7 @@
 use Rattle.std.specs.Prelude.{◌≡◌, Option, None, Some, Result, Ok, IsErr}
 use Rattle.ioa_value.specs.declared.memory.OutOfMemory.{OutOfMemory}
 use Rattle.ioa_run.specs.declared.gate.Point.{Point}
-use Rattle.ioa_run.specs.declared.verdict.Verdict.{Verdict}
+use Rattle.ioa_board.specs.declared.verdict.Verdict.{Verdict}
 
 -- a turn ends there
 abbrev pub IsEnd : Point → Type 0

@@ -1,29 +1,32 @@
 -- The schedule machine of a program.
 use Rattle.std.specs.Prelude.{◌≡◌, ◌+◌, ℕ, List, Option, Some, Result, Ok, Err, length, map, refl, slice_get}
-use Rattle.std.specs.Coded.{Coded, code_by, coded×}
+use Rattle.std.specs.Coded.{Coded, code_by, coded×, coded_list, coded_option}
 use Rattle.std.specs.Option.{option_map}
 use Rattle.ioa_value.specs.Actions.{Act, act_of}
 use Rattle.ioa_value.specs.Plain.{Val}
 use Rattle.ioa_compile.specs.Programs.{Prog}
 use Rattle.ioa_compile.specs.Coded.{coded_prog}
 use Rattle.ioa_compile.specs.Tables.{start_states, tabled}
-use Rattle.ioa_tree.specs.Steps.{step}
-use Rattle.ioa_system.specs.Logs.{worker}
-use Rattle.ioa_run.specs.declared.answer.Answer.{Answer}
-use Rattle.ioa_run.specs.declared.verdict.Verdict.{Verdict}
+use Rattle.ioa_board.specs.declared.answer.Answer.{Answer}
+use Rattle.ioa_board.specs.declared.verdict.Verdict.{Verdict}
 use Rattle.ioa_run.specs.declared.event.Event.{Event}
-use Rattle.ioa_run.specs.Coded.{coded_schedule}
-use Rattle.ioa_run.specs.declared.planned.Planned.{Planned}
-use Rattle.ioa_run.specs.Planning.{IfReady, IsOf, Makes, answer_of, intent_of, plan_in}
-use Rattle.ioa_run.specs.ProgramBoards.{ProgramBoard}
-use Rattle.ioa_run.specs.ProgramPlans.{ProgramPlan}
-use Rattle.ioa_run.specs.Boards.{Intent, now_of}
+use Rattle.ioa_board.specs.declared.planned.Planned.{Planned}
+use Rattle.ioa_board.specs.Planning.{IsOf, Makes, answer_of, intent_of, plan_in}
+use Rattle.ioa_board.specs.ProgramBoards.{ProgramBoard}
+use Rattle.ioa_board.specs.ProgramPlans.{ProgramPlan}
+use Rattle.ioa_board.specs.Boards.{Intent, now_of, intent, Standing}
 use Rattle.ioa_run.specs.Schedules as machine
-use Rattle.ioa_run.specs.Schedules.{Answers, Plans, Plays, Schedule, intent, start_schedule, with_plan}
+use Rattle.ioa_run.specs.Schedules.{Answers, Plays, Schedule, start_schedule, with_plan}
+use Rattle.ioa_board.specs.Coded.{coded_intent, coded_standing}
 
 pub record ProgramSchedule : Type 0 where
   pub program : Prog
   pub schedule : Schedule (List Val)
+
+abbrev pub coded_schedule : Coded (Schedule (List Val))
+coded_schedule =
+    code_by (Standing (List Val) × List (Option (Intent (List Val)))) (coded× coded_standing (coded_list (coded_option coded_intent))) (λ s. (s.board, s.plans))
+    (λ p. record { board = p.0; plans = p.1 }) (λ _. refl)
 
 abbrev pub coded_program_schedule : Coded ProgramSchedule
 coded_program_schedule =
@@ -48,11 +51,6 @@ intents ps = map (option_map (λ p. p.intent)) ps
 pub record ArePlans (p : Prog) (plans : List (Option ProgramPlan)) : Type 0 where
   pub count : length plans ≡ length p.members + 1
   pub own : (w : ℕ) (q : ProgramPlan) → slice_get plans w ≡ Some (Some q) → IsOf p w q
-
--- what a worker is answered that plans the action by the states as they are now
-pub record PlansNow (b : ProgramBoard) (w : ℕ) (a : Act) (r : Planned) : Type 0 where
-  pub plans : Plans w (worker (tabled b.program) a) (step (tabled b.program) a b.board.states) (intent (tabled b.program) a b.board.states) (answer_of r) (intent_of r)
-  pub ready : IfReady (IsOf b.program w) r
 
 -- the answer and the plan that the worker then has
 abbrev pub Parts : Planned → Answer → Option ProgramPlan → Type 0

@@ -6,11 +6,11 @@ use Rattle.ioa_value.specs.Plain.{Val}
 use Rattle.ioa_tree.specs.Proposing.{Words}
 use Rattle.ioa_compile.specs.Programs.{Prog}
 use Rattle.ioa_compile.specs.Tables.{tabled}
-use Rattle.ioa_run.specs.declared.run_err.RunErr.{RunErr}
-use Rattle.ioa_run.specs.Alone.{IsFirstOther, IsInput, most_turns}
+use Rattle.ioa_board.specs.declared.run_err.RunErr.{RunErr}
+use Rattle.ioa_board.specs.ProgramRooms.{IsInput, ProgramRoom}
+use Rattle.ioa_run.specs.Alone.{IsFirstOther, most_turns}
 use Rattle.ioa_run.specs.Proposers.{proposers}
 use Rattle.ioa_run.specs.Going.{AreSettled, Follows, dismissed}
-use Rattle.ioa_run.specs.ProgramRooms.{ProgramRoom}
 use Rattle.ioa_run.specs.Turning.{standing_at}
 use Rattle.ioa_run.specs.Turns.{Turns, round, rounds, turns_of_first}
 

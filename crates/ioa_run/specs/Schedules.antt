@@ -1,12 +1,12 @@
 -- The schedule machine: workers that plan and commit, one event after another, in any order.
-use Rattle.std.specs.Prelude.{◌≡◌, ◌≢◌, ◌+◌, ℕ, List, [], ◌∷◌, Option, None, Some, length, replicate, slice_get, slice_set, unwrap_or}
+use Rattle.std.specs.Prelude.{◌≡◌, ◌+◌, ℕ, List, [], ◌∷◌, Option, None, Some, length, replicate, slice_get, slice_set, unwrap_or}
 use Rattle.ioa_value.specs.Actions.{Act}
 use Rattle.ioa_value.specs.Plain.{Val}
 use Rattle.ioa_tree.specs.Components.{Component}
-use Rattle.ioa_tree.specs.Steps.{Moved, not_an_action, not_enabled, step}
+use Rattle.ioa_tree.specs.Steps.{step}
 use Rattle.ioa_system.specs.Logs.{worker}
-use Rattle.ioa_run.specs.Boards.{Standing, Intent, Commits, begun, now_of}
-use Rattle.ioa_run.specs.declared.answer.Answer.{Answer}
+use Rattle.ioa_board.specs.Boards.{Standing, Intent, Commits, begun, Plans, intent}
+use Rattle.ioa_board.specs.declared.answer.Answer.{Answer}
 
 -- the board, and for each worker its plan or none: for the components in order, then for the environment
 pub record Schedule (S : Type 0) : Type 0 where
@@ -24,22 +24,6 @@ start_schedule ss = schedule_from (begun ss)
 pub data Event : Type 0 where
   copy : ℕ → Act → Event
   commit : ℕ → Event
-
--- what planning an action answers a worker, and the plan that it then has: the action has this worker, this step, and would be this plan.
--- An action that would fault is planned too
-abbrev pub Plans : {S : Type 0} → ℕ → ℕ → Moved S → Intent S → Answer → Option (Intent S) → Type 0
-Plans w own m p Answer.NotAnAction q = (m ≡ not_an_action) × (q ≡ None)
-Plans w own m p Answer.NotYours q = (m ≢ not_an_action) × (w ≢ own) × (q ≡ None)
-Plans w own m p Answer.NotEnabled q = (w ≡ own) × (m ≡ not_enabled) × (q ≡ None)
-Plans w own m p Answer.Planned q = (w ≡ own) × (m ≢ not_an_action) × (m ≢ not_enabled) × (q ≡ Some p)
-Plans w own m p Answer.NoPlan q = ⊥
-Plans w own m p Answer.Stopped q = ⊥
-Plans w own m p Answer.Stale q = ⊥
-Plans w own m p (Answer.Faulted c f) q = ⊥
-Plans w own m p (Answer.Committed n) q = ⊥
-
-abbrev pub intent : {S : Type 0} → List (Component S) → Act → List S → Intent S
-intent ps a ss = record { action = a; copied = now_of ps a ss }
 
 abbrev pub with_plan : {S : Type 0} → Schedule S → ℕ → Option (Intent S) → Schedule S
 with_plan s w q = record s { plans = slice_set s.plans w q }

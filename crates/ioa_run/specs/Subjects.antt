@@ -22,18 +22,18 @@ use Rattle.ioa_system.specs.Systems.{values_of}
 use Rattle.ioa_system.specs.declared.log.LogEnd.{LogEnd}
 use Rattle.ioa_system.specs.declared.log.LogEntry.{LogEntry}
 use Rattle.ioa_run.specs.Alone.{IsAloneFrom, IsOutcomeFrom, turns_since}
-use Rattle.ioa_run.specs.Boards.{Intent, IsSound, Standing, now_of}
-use Rattle.ioa_run.specs.Histories.{GoesOn, acts_of, since}
-use Rattle.ioa_run.specs.Outcomes.{ending, logged}
-use Rattle.ioa_run.specs.Planning.{Makes, answer_of, intent_of}
+use Rattle.ioa_board.specs.Boards.{Intent, IsSound, Standing, now_of, intent}
+use Rattle.ioa_board.specs.Histories.{GoesOn, acts_of, since}
+use Rattle.ioa_board.specs.Outcomes.{ending, logged}
+use Rattle.ioa_board.specs.Planning.{Makes, answer_of, intent_of}
 use Rattle.ioa_run.specs.Played.{events_since}
-use Rattle.ioa_run.specs.Reports.{AreTold}
-use Rattle.ioa_run.specs.Resuming.{resumption}
-use Rattle.ioa_run.specs.Schedules.{Answers, Event, Plays, Schedule, copy, intent, schedule_from, with_plan}
+use Rattle.ioa_board.specs.Reports.{AreTold}
+use Rattle.ioa_board.specs.Resuming.{resumption}
+use Rattle.ioa_run.specs.Schedules.{Answers, Event, Plays, Schedule, copy, schedule_from, with_plan}
 use Rattle.ioa_run.specs.Turns.{Turns}
-use Rattle.ioa_run.specs.declared.answer.Answer.{Answer}
-use Rattle.ioa_run.specs.declared.outcome.Outcome.{Outcome}
-use Rattle.ioa_run.specs.declared.planned.Planned.{Planned}
+use Rattle.ioa_board.specs.declared.answer.Answer.{Answer}
+use Rattle.ioa_board.specs.declared.outcome.Outcome.{Outcome}
+use Rattle.ioa_board.specs.declared.planned.Planned.{Planned}
 
 -- ---- boards and turns of which the states are related
 

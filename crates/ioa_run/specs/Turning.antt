@@ -4,16 +4,17 @@ use Rattle.ioa_value.specs.Actions.{Act}
 use Rattle.ioa_value.specs.Plain.{Val}
 use Rattle.ioa_tree.specs.Proposing.{Words}
 use Rattle.ioa_compile.specs.Tables.{tabled}
-use Rattle.ioa_run.specs.declared.report.Report.{Report}
-use Rattle.ioa_run.specs.declared.report.Why.{Why}
-use Rattle.ioa_run.specs.declared.answer.Answer.{Answer}
+use Rattle.ioa_board.specs.declared.report.Report.{Report}
+use Rattle.ioa_board.specs.declared.report.Why.{Why}
+use Rattle.ioa_board.specs.declared.answer.Answer.{Answer}
 use Rattle.ioa_run.specs.declared.turn.TurnEnd.{TurnEnd}
 use Rattle.ioa_run.specs.Proposers.{proposers, tried}
-use Rattle.ioa_run.specs.Going.{IsTurn, told_in}
-use Rattle.ioa_run.specs.Histories.{count}
-use Rattle.ioa_run.specs.ProgramRooms.{ProgramRoom, ChangesReport, environment, new_in, place}
-use Rattle.ioa_run.specs.Reports.{Changes, left, with_idle}
-use Rattle.ioa_run.specs.Turns.{Turns, after, attempt, changed, is_last, meant}
+use Rattle.ioa_board.specs.Reports.{told_in, Changes, left, with_idle}
+use Rattle.ioa_run.specs.Going.{IsTurn}
+use Rattle.ioa_board.specs.Histories.{count}
+use Rattle.ioa_board.specs.ProgramRooms.{ProgramRoom, ChangesReport, environment, new_in, place}
+use Rattle.ioa_board.specs.Boards.{attempt}
+use Rattle.ioa_run.specs.Turns.{Turns, after, changed, is_last, meant}
 
 -- ---- one turn
 

@@ -1,16 +1,14 @@
 -- Turns of workers, one after another: what each means to do, what becomes of it, and a run of so many rounds.
-use Rattle.std.specs.Prelude.{ℕ, zero, suc, ◌+◌, ◌%◌, ◌==◌, List, [], ◌∷◌, Bool, true, false, cond, if◌then◌else◌, Option, None, Some, length, replicate, slice_get, unwrap_or}
+use Rattle.std.specs.Prelude.{ℕ, zero, suc, ◌+◌, ◌%◌, List, [], ◌∷◌, Bool, true, false, cond, Option, None, Some, length, replicate, slice_get, unwrap_or}
 use Rattle.std.specs.Option.{option_map_or}
 use Rattle.ioa_value.specs.Actions.{Act}
 use Rattle.ioa_tree.specs.Components.{Component}
 use Rattle.ioa_tree.specs.Proposing.{Words, Tried, tries, idle}
-use Rattle.ioa_tree.specs.Steps.{Moved, next, not_an_action, not_enabled, fault, step}
-use Rattle.ioa_system.specs.Logs.{worker}
-use Rattle.ioa_run.specs.Boards.{Failure, Standing, with_entry, with_failure}
-use Rattle.ioa_run.specs.Reports.{blank, with_committed, with_idle, with_stale, with_why}
-use Rattle.ioa_run.specs.declared.answer.Answer.{Answer}
-use Rattle.ioa_run.specs.declared.report.Report.{Report}
-use Rattle.ioa_run.specs.declared.report.Why.{Why}
+use Rattle.ioa_board.specs.Boards.{Standing, attempt}
+use Rattle.ioa_board.specs.Reports.{blank, with_idle, with_why, told}
+use Rattle.ioa_board.specs.declared.answer.Answer.{Answer}
+use Rattle.ioa_board.specs.declared.report.Report.{Report}
+use Rattle.ioa_board.specs.declared.report.Why.{Why}
 
 -- the words after so many
 abbrev pub after : ℕ → Words → Words
@@ -24,38 +22,6 @@ Proposer S = S → Words → ℕ → Tried Act
 -- words after it. Without local entries there is nothing to try, and no word is taken
 abbrev pub chosen : {S : Type 0} → List (Proposer S) → S → Words → Tried Act
 chosen es s words = option_map_or (λ e. e s words 1) (slice_get es (words 0 % length es)) (idle 0)
-
--- what an attempt of a worker at its own action, of which this comes, is answered where this fault is recorded, and what then stands
-abbrev pub own_attempt : {S : Type 0} → ℕ → Act → Standing S → Option Failure → Moved S → Answer × Standing S
-own_attempt w a b f not_an_action = (Answer.NotAnAction, b)
-own_attempt w a b f not_enabled = (Answer.NotEnabled, b)
-own_attempt w a b (Some r) (next ts) = (Answer.Stopped, b)
-own_attempt w a b (Some r) (fault c e) = (Answer.Stopped, b)
-own_attempt w a b None (next ts) = (Answer.Committed (length b.history), with_entry b w a ts)
-own_attempt w a b None (fault c e) = (Answer.Faulted c e, with_failure b w a c e)
-
--- what another worker's action is answered
-abbrev pub not_own : {S : Type 0} → Moved S → Answer
-not_own not_an_action = Answer.NotAnAction
-not_own not_enabled = Answer.NotYours
-not_own (next ts) = Answer.NotYours
-not_own (fault c e) = Answer.NotYours
-
--- what a worker is answered that copies for an action and, where it can plan it, commits at once; and what then stands
-abbrev pub attempt : {S : Type 0} → List (Component S) → ℕ → Act → Standing S → Answer × Standing S
-attempt ps w a b = if w == worker ps a then own_attempt w a b b.failure (step ps a b.states) else (not_own (step ps a b.states), b)
-
--- what the answer changes in the worker's report: a turn is idle whose action cannot be planned. Planned, NoPlan and Stale answer no attempt
-abbrev pub told : Answer → Report → Report
-told (Answer.Committed n) r = with_committed r
-told (Answer.Faulted c f) r = with_why Why.Faulted r
-told Answer.Stopped r = with_why Why.Stopped r
-told Answer.NotAnAction r = with_idle r
-told Answer.NotYours r = with_idle r
-told Answer.NotEnabled r = with_idle r
-told Answer.Planned r = with_idle r
-told Answer.NoPlan r = with_idle r
-told Answer.Stale r = with_stale r
 
 -- whether the worker takes no turn after it
 abbrev pub is_last : Answer → Bool

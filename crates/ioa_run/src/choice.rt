@@ -1,6 +1,6 @@
 //! What a component means to do next: its words decide what its automaton leaves open.
 
-ghost use Rattle.std.specs.Prelude.{◌≡◌, List, IfOk, IfSome, length, map};
+ghost use Rattle.std.specs.Prelude.{◌≡◌, List, IfOk, IfSome, IsOk, length, map};
 ghost use Rattle.std.specs.Bool.{OnTrue};
 ghost use Rattle.std.specs.Option.{option_map};
 ghost use Rattle.std.specs.Prelude.{slice_get};
@@ -9,18 +9,22 @@ ghost use Rattle.ioa_value.specs.Plain.{Val, plain};
 ghost use Rattle.ioa_value.specs.Positions.{domain_of};
 ghost use Rattle.ioa_tree.specs.Components as components;
 ghost use Rattle.ioa_compile.specs.Shown.{entry_code, member_code};
-ghost use Rattle.ioa_run.specs.Proposers.{filled, local_entries};
+ghost use Rattle.ioa_run.specs.Proposers.{action_with, filled, local_entries};
 ghost use Rattle.ioa_run.specs.Choices.{AreOfState, Chooses, GivesAction, IsOfState};
+ghost use Rattle.ioa_node.specs.Proposals.{values_in};
+ghost use Rattle.ioa_run.specs.Tallies.{IsPick, lost_by};
 
+use crate::tally::{Lost, Pick};
 use ioa_compile::Entry;
-use ioa_node::{NodeState, Words, Workspace, propose_with};
+use ioa_node::{NodeState, Proposal, Words, Workspace, proposal_with};
 use ioa_tree::Kind;
 use ioa_value::{Action, OutOfMemory, Position, Value};
 use std::alloc::Global;
 use std::mem;
 
 /// The action that a component of these entries means to perform in this state: one word picks one of its local entries, whose proposal
-/// goes on with the words after it. None where it has no local entry, which takes no word, or the proposal gives none.
+/// goes on with the words after it. None where it has no local entry, which takes no word, or the proposal gives none. Behind it the pick tells which entry it is,
+/// and why the turn is idle, if it is.
 ///
 /// It asks that the entries' proposals are over the state's types.
 pub(crate) fn choose<W: Words>(
@@ -29,23 +33,26 @@ pub(crate) fn choose<W: Words>(
     entries: &[Entry],
     state: &NodeState,
     words: &mut W,
+    pick: &mut Pick,
 ) -> Result<Option<Action>, OutOfMemory>
     requires { AreOfState state.now (map entry_code entries.now) }
-    ensures { IfOk result (λ r. Chooses (map entry_code entries.now) state.now.values (W.stream words.old) (option_map act_of r) (W.stream words.new)) }
+    ensures chosen { IfOk result (λ r. Chooses (map entry_code entries.now) state.now.values (W.stream words.old) (option_map act_of r) (W.stream words.new)) }
+    ensures picks { IsOk result → IsPick (map entry_code entries.now) state.now.values (W.stream words.old) pick.new }
 {
     let count = local_count(entries);
     if count == 0 {
         return Ok(None);
     }
-    let number = words.next() as usize % count;
+    pick.word = words.next();
+    let number = pick.word as usize % count;
     match local_entry(entries, number) {
-        Some(entry) => propose_by(alloc, workspace, entry, state, words),
+        Some(entry) => propose_by(alloc, workspace, entry, state, words, &mut pick.lost),
         None => Ok(None),
     }
 }
 
 /// How many entries their component performs.
-fn local_count(entries: &[Entry]) -> usize
+pub(crate) fn local_count(entries: &[Entry]) -> usize
     ensures { result ≡ length (local_entries (map entry_code entries.now)) }
 {
     let mut count = 0;
@@ -73,27 +80,45 @@ fn local_entry<'a>(entries: &'a [Entry], number: usize) -> Option<&'a Entry>
     None
 }
 
-/// The action that the entry proposes.
+/// The action that the entry proposes, and why a turn is idle in which it is tried.
 fn propose_by<W: Words>(
     alloc: Global,
     workspace: &mut Workspace,
     entry: &Entry,
     state: &NodeState,
     words: &mut W,
+    lost: &mut Lost,
 ) -> Result<Option<Action>, OutOfMemory>
     requires { IfSome (entry_code entry.now).propose (IsOfState state.now) }
-    ensures { IfOk result (λ r. GivesAction (entry_code entry.now) state.now.values (W.stream words.old) (option_map act_of r) (W.stream words.new)) }
+    ensures gives { IfOk result (λ r. GivesAction (entry_code entry.now) state.now.values (W.stream words.old) (option_map act_of r) (W.stream words.new)) }
+    ensures lost { IsOk result → lost.new ≡ lost_by (entry_code entry.now).propose state.now.values (W.stream words.old) }
 {
+    *lost = Lost::NoProposal;
     let Some(code) = &entry.propose else {
         return Ok(None);
     };
-    let Some(values) = propose_with(alloc, workspace, code, state, words)? else {
-        return Ok(None);
-    };
-    Ok(Some(Action {
+    match proposal_with(alloc, workspace, code, state, words)? {
+        Proposal::Values(values) => {
+            *lost = Lost::NotEnabled;
+            let action = action_of(alloc, entry, values)?;
+            Ok(Some(action))
+        }
+        Proposal::Nothing => Ok(None),
+        Proposal::Faulted => {
+            *lost = Lost::ProposalFaulted;
+            Ok(None)
+        }
+    }
+}
+
+/// The action of the entry with these values of its parameters.
+fn action_of(alloc: Global, entry: &Entry, values: Vec<Value>) -> Result<Action, OutOfMemory>
+    ensures { IfOk result (λ a. act_of a ≡ action_with (entry_code entry.now) (values_in values)) }
+{
+    Ok(Action {
         name: entry.name.clone()?,
         vals: fill(alloc, &entry.positions, values)?,
-    }))
+    })
 }
 
 /// These values, each in its place among equals of the constants. Where all positions are theirs, they stand in their places already.

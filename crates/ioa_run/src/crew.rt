@@ -1,16 +1,14 @@
 //! The lock of a run on threads: all that workers do under it.
 
-ghost use Rattle.std.specs.Prelude.{◌≡◌, ◌<◌, All, IfOk, length};
+ghost use Rattle.std.specs.Prelude.{◌≡◌, ◌<◌, All, IfOk, length, map};
 ghost use Rattle.ioa_system.specs.Participants.{taken};
 ghost use Rattle.ioa_system.specs.Systems.{slot_types, types_of};
 ghost use Rattle.ioa_run.specs.Alone.{IsOutcomeFrom};
+ghost use Rattle.ioa_run.specs.Tallies.{AreAgreeing, AreTallied, tally_of};
 
-use crate::outcome::Outcome;
 use crate::own_room::{OwnRoom, Terms};
-use crate::plan::Plan;
-use crate::report::Why;
-use crate::room::Room;
-use crate::verdict::Verdict;
+use crate::tally::{Pick, Tally};
+use ioa_board::{Outcome, Plan, Room, Verdict, Why};
 use ioa_compile::Program;
 use ioa_node::NodeState;
 use ioa_value::{Action, OutOfMemory};
@@ -37,14 +35,16 @@ impl<'p, T: Terms> Crew<'p, T> {
         inputs: &'p [Action],
         turns: u64,
         room: Room<'p>,
+        tallies: Vec<Tally>,
     ) -> Crew<'p, T>
         requires own { program.now ≡ T.program }
         requires program { room.program ≡ T.program }
         requires inputs { room.inputs ≡ T.inputs }
         requires turns { room.turns ≡ T.turns }
         requires before { room.before ≡ T.before }
+        requires tallied { AreTallied room (map tally_of tallies.items) }
     {
-        let room = OwnRoom::of(room);
+        let room = OwnRoom::of(room, tallies);
         Crew {
             program,
             inputs,
@@ -71,17 +71,23 @@ impl<'p, T: Terms> Crew<'p, T> {
         self.room.lock(rt).place()
     }
 
-    /// Commits the worker's plan.
-    pub(crate) fn commit<R: Wait>(&self, rt: &R, who: usize, plan: Plan<'p>) -> Verdict<'p>
+    /// Commits the worker's plan, which is that of the entry that it picked.
+    pub(crate) fn commit<R: Wait>(
+        &self,
+        rt: &R,
+        who: usize,
+        plan: Plan<'p>,
+        pick: Pick,
+    ) -> Verdict<'p>
         requires who { who ≡ plan.who }
         requires program { plan.program ≡ T.program }
     {
-        self.room.lock(rt).commit(who, plan)
+        self.room.lock(rt).commit(who, plan, pick)
     }
 
     /// Counts a turn in which the worker had nothing to commit.
-    pub(crate) fn idle<R: Wait>(&self, rt: &R, who: usize) {
-        self.room.lock(rt).idle(who);
+    pub(crate) fn idle<R: Wait>(&self, rt: &R, who: usize, pick: Pick) {
+        self.room.lock(rt).idle(who, pick);
     }
 
     /// Says why the worker takes no more turns.
@@ -99,9 +105,10 @@ impl<'p, T: Terms> Crew<'p, T> {
         self.cancelled.load(Ordering::SeqCst)
     }
 
-    /// What the run gives, once no thread is left.
-    pub(crate) fn finish(self) -> Outcome
-        ensures { IsOutcomeFrom T.program T.before T.inputs T.turns result }
+    /// What the run gives, once no thread is left, and what became of the components' turns.
+    pub(crate) fn finish(self) -> (Outcome, Vec<Tally>)
+        ensures outcome { IsOutcomeFrom T.program T.before T.inputs T.turns result.0 }
+        ensures tallied { AreAgreeing T.program.members result.0.reports.items (map tally_of result.1.items) }
     {
         self.room.into_inner().finish()
     }

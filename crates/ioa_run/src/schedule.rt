@@ -1,24 +1,14 @@
 //! The schedule machine, on which copies and commits of workers come in any order.
 
-ghost use Rattle.std.specs.Prelude.{◌≡◌, ◌+◌, IfOk, None, OnErr, length, map, replicate, slice_get, slice_set, unwrap_or};
+ghost use Rattle.std.specs.Prelude.{◌≡◌, ◌+◌, IfOk, None, OnErr, map, replicate, slice_get, slice_set, unwrap_or};
 ghost use Rattle.ioa_value.specs.Actions.{act_of};
 ghost use Rattle.ioa_compile.specs.Tables.{tabled};
-ghost use Rattle.ioa_system.specs.Systems.{values_of};
-ghost use Rattle.ioa_run.specs.Boards.{now_of};
-ghost use Rattle.ioa_run.specs.Planning.{Assesses};
 ghost use Rattle.ioa_run.specs.Schedules as machine;
-ghost use Rattle.ioa_run.specs.ProgramSchedules.{IsPlay, Parts, PlansNow, Settles, board_now, event_of, start_program};
+ghost use Rattle.ioa_run.specs.ProgramSchedules.{IsPlay, Parts, Settles, board_now, event_of, start_program};
 
-use crate::answer::Answer;
-use crate::assessed::Assessed;
-use crate::board::Board;
 use crate::event::Event;
-use crate::plan::{Plan, assess, plan_by};
-use crate::planned::Planned;
-use crate::verdict::Verdict;
+use ioa_board::{Answer, Board, Plan, Planned, Verdict, plan_now};
 use ioa_compile::Program;
-use ioa_node::NodeState;
-use ioa_system::Participation;
 use ioa_value::{Action, OutOfMemory};
 use std::alloc::Global;
 use std::marker::Model;
@@ -87,7 +77,7 @@ impl<'p> Core<'p> {
         ensures program { self.new.program ≡ self.old.program }
         ensures memory { OnErr result (self.new ≡ self.old) }
     {
-        let planned = plan(self.alloc, &self.board, who, action)?;
+        let planned = plan_now(self.alloc, &self.board, who, action)?;
         let (answer, plan) = parted(planned);
         put_plan(&mut self.plans, who, plan);
         Ok(answer)
@@ -144,37 +134,6 @@ fn exchange<'p>(
     } else {
         None
     }
-}
-
-/// What the worker is answered that plans the action by the participants' states as they are now.
-pub(crate) fn plan<'p>(
-    alloc: Global,
-    board: &Board<'p>,
-    who: usize,
-    action: Action,
-) -> Result<Planned<'p>, OutOfMemory>
-    ensures { IfOk result (PlansNow board.now who (act_of action)) }
-{
-    let (copied, assessed) = assess_now(alloc, board, who, &action)?;
-    Ok(plan_by(board.program(), who, action, copied, assessed))
-}
-
-/// Equals of the participants' states as they are now, and whether the worker can plan the action by these. The action is looked up once.
-fn assess_now(
-    alloc: Global,
-    board: &Board<'_>,
-    who: usize,
-    action: &Action,
-) -> Result<(Vec<NodeState>, Assessed), OutOfMemory>
-    ensures whole { IfOk result (λ _. length board.now.board.states ≡ length board.now.program.members) }
-    ensures now { IfOk result (λ r. values_of r.0.items ≡ now_of (tabled board.now.program) (act_of action.now) board.now.board.states) }
-    ensures assesses { IfOk result (λ r. Assesses board.now.program who (act_of action.now) r.0.items r.1) }
-{
-    let participation = Participation::of(alloc, board.program(), action)?;
-    let numbers = participation.numbers(alloc)?;
-    let copied = board.copy(&numbers)?;
-    let assessed = assess(alloc, &participation, who, numbers, &copied)?;
-    Ok((copied, assessed))
 }
 
 /// The answer, and the plan that the worker then has.

@@ -1,23 +1,24 @@
 //! Runs on threads, whose history is legal in whatever order their workers come.
 
-ghost use Rattle.std.specs.Prelude.{◌≡◌, ◌≤◌, All, IfErr, IfOk, length, map};
+ghost use Rattle.std.specs.Prelude.{◌≡◌, ◌+◌, ◌≤◌, [], All, IfErr, IfOk, length, map, replicate};
 ghost use denote.Param.Send.{IsSend, IsSync};
 ghost use Rattle.ioa_value.specs.Actions.{act_of};
 ghost use Rattle.ioa_compile.specs.Tables.{tabled};
 ghost use Rattle.ioa_system.specs.Logs.{log_end, logged};
-ghost use Rattle.ioa_run.specs.declared.run_err.RunErr.TheVariants as errors;
-ghost use Rattle.ioa_run.specs.Alone.{IsInput, IsOutcome, IsOutcomeFrom, Refuses, RefusesResumed, most_turns};
-ghost use Rattle.ioa_run.specs.Outcomes.{HaveEnded};
+ghost use Rattle.ioa_board.specs.declared.run_err.RunErr.TheVariants as errors;
+ghost use Rattle.ioa_board.specs.ProgramRooms.{IsInput};
+ghost use Rattle.ioa_run.specs.Alone.{IsOutcome, IsOutcomeFrom, Refuses, RefusesResumed, most_turns};
+ghost use Rattle.ioa_board.specs.Outcomes.{HaveEnded};
+ghost use Rattle.ioa_board.specs.Reports.{blank};
+ghost use Rattle.ioa_run.specs.TalliedRuns.{IsTallied};
 
 use crate::beginning::{check, resumed_room};
 use crate::crew::Crew;
 use crate::gate::Gate;
-use crate::outcome::Outcome;
 use crate::own_room::Terms;
-use crate::report::have_ended;
-use crate::room::Room;
-use crate::run_err::RunErr;
+use crate::tally::{Tally, blank_tallies};
 use crate::worker::{Source, Worker};
+use ioa_board::{Outcome, Room, RunErr, have_ended};
 use ioa_compile::Program;
 use ioa_node::Words;
 use ioa_system::Log;
@@ -34,7 +35,7 @@ use std::thread::Threads;
 /// A worker tells the gate where it is, and waits there as long as the gate holds it. It takes no more turns after a fault of its action,
 /// or where it would commit after another's; the others go on. Memory that is refused to a worker in its turn ends that worker alone, and
 /// its report says so. So of each worker all turns are counted, or fewer, since its action faulted, or another's did, or memory was refused
-/// to it.
+/// to it. Behind a run the tallies are those of its components, in order; what stood there is gone.
 ///
 /// It answers `TooManyTurns` where each worker would have more than 100,000 turns; then `BadInput` with the first action that is no input
 /// of the composition; `Threads` where a thread was refused, once the others are stopped and have ended, or where one has ended without a
@@ -47,19 +48,23 @@ pub fn run_threads<R: Threads + Wait + Sync, W: Words + Send + Drop, G: Gate + S
     words: Vec<W>,
     inputs: &[Action],
     gate: &G,
+    tallies: &mut Vec<Tally>,
 ) -> Result<Outcome, RunErr>
     requires sources { length words.items ≡ length program.now.members }
     ensures outcome { IfOk result (λ o. IsOutcome program.now (map act_of inputs.now) turns o) }
     ensures ended { IfOk result (λ o. HaveEnded turns (log_end o.end) o.reports.items) }
     ensures refused { Refuses program.now (map act_of inputs.now) turns result }
+    ensures tallied { IfOk result (λ o. IsTallied program.now [] o tallies.new.items) }
 {
     check(alloc, program, turns, inputs)?;
     let room = Room::start(alloc, program, inputs, turns)?;
-    run_on::<Brand, R, W, G>(rt, alloc, program, room, turns, words, inputs, gate)
+    run_on::<Brand, R, W, G>(
+        rt, alloc, program, room, turns, words, inputs, gate, tallies,
+    )
 }
 
 /// Runs the program on threads as `run_threads` does, from where the run ended that the log tells: what the log has stands at the beginning of the
-/// history, words and inputs begin anew, and the reports tell of what is new.
+/// history, words and inputs begin anew, and the reports and the tallies tell of what is new.
 ///
 /// It answers as `run_threads` does; and after `TooManyTurns` and `BadInput` `EndedByFault` where the log ends by a fault, then `BadLog` with the
 /// first of its entries that is not the program's run's, or with their number where the end has another count.
@@ -72,14 +77,18 @@ pub fn resume_threads<R: Threads + Wait + Sync, W: Words + Send + Drop, G: Gate 
     words: Vec<W>,
     inputs: &[Action],
     gate: &G,
+    tallies: &mut Vec<Tally>,
 ) -> Result<Outcome, RunErr>
     requires sources { length words.items ≡ length program.now.members }
     ensures outcome { IfOk result (λ o. IsOutcomeFrom program.now (logged log.now).entries (map act_of inputs.now) turns o) }
     ensures ended { IfOk result (λ o. HaveEnded turns (log_end o.end) o.reports.items) }
     ensures refused { RefusesResumed program.now (map act_of inputs.now) turns (logged log.now) result }
+    ensures tallied { IfOk result (λ o. IsTallied program.now (logged log.now).entries o tallies.new.items) }
 {
     let room = resumed_room(alloc, program, log, inputs, turns)?;
-    run_on::<Brand, R, W, G>(rt, alloc, program, room, turns, words, inputs, gate)
+    run_on::<Brand, R, W, G>(
+        rt, alloc, program, room, turns, words, inputs, gate, tallies,
+    )
 }
 
 /// A run of these terms, which may begin.
@@ -92,7 +101,9 @@ fn run_on<'p, T: Terms + Send, R: Threads + Wait + Sync, W: Words + Send + Drop,
     words: Vec<W>,
     inputs: &'p [Action],
     gate: &G,
+    tallies: &mut Vec<Tally>,
 ) -> Result<Outcome, RunErr>
+    requires reports { room.reports ≡ replicate (length T.program.members + 1) blank }
     requires program { program.now ≡ T.program }
     requires own { room.program ≡ T.program }
     requires script { room.inputs ≡ T.inputs }
@@ -105,12 +116,16 @@ fn run_on<'p, T: Terms + Send, R: Threads + Wait + Sync, W: Words + Send + Drop,
     ensures outcome { IfOk result (λ o. IsOutcomeFrom T.program T.before T.inputs T.turns o) }
     ensures ended { IfOk result (λ o. HaveEnded T.turns (log_end o.end) o.reports.items) }
     ensures refused { Refuses T.program T.inputs T.turns result }
+    ensures tallied { IfOk result (λ o. IsTallied T.program T.before o tallies.new.items) }
 {
-    let crew: Crew<'_, T> = Crew::of(program, inputs, turns, room);
+    let blank = blank_tallies(alloc, program.members())?;
+    let crew: Crew<'_, T> = Crew::of(program, inputs, turns, room, blank);
     if !work_all(rt, alloc, &crew, words, gate) {
         return Err(RunErr::Threads);
     }
-    unless_silent(crew.finish(), turns)
+    let (outcome, counted) = crew.finish();
+    *tallies = counted;
+    unless_silent(outcome, turns)
 }
 
 /// What a run with so many turns for each worker gave, unless a worker has ended without a word. A worker's thread says why it takes no more

@@ -4,14 +4,12 @@ ghost use Rattle.std.specs.Prelude.{◌≡◌, ◌↔◌, All, IfOk, IsTrue, Som
 ghost use Rattle.std.specs.Option.{option_map};
 ghost use Rattle.ioa_value.specs.Actions.{act_of};
 ghost use Rattle.ioa_compile.specs.Tables.{tabled};
-ghost use Rattle.ioa_run.specs.Alone.{IsInput};
-ghost use Rattle.ioa_run.specs.ProgramRooms.{environment, place};
+ghost use Rattle.ioa_board.specs.ProgramRooms.{IsInput, environment, place};
 ghost use Rattle.ioa_run.specs.declared.turn.TurnEnd.TheVariants as turn_ends;
-ghost use Rattle.ioa_run.specs.Attempted.{IsInScript};
+ghost use Rattle.ioa_board.specs.Attempted.{IsInScript};
 ghost use Rattle.ioa_run.specs.Turning.{Acts, end_of, ends};
 
-use crate::answer::Answer;
-use crate::room::Room;
+use ioa_board::{Answer, Room};
 use ioa_system::Stepper;
 use ioa_value::{Action, OutOfMemory};
 use std::alloc::Global;

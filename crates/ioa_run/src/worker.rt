@@ -3,19 +3,16 @@
 ghost use Rattle.std.specs.Prelude.{◌≡◌, IfOk, IfSome};
 ghost use Rattle.ioa_value.specs.Actions.{act_of};
 ghost use Rattle.ioa_run.specs.declared.gate.Point.TheVariants as points;
-ghost use Rattle.ioa_run.specs.Planning.{Assesses, IfReady, IsOf};
+ghost use Rattle.ioa_board.specs.Planning.{Assesses, IfReady, IsOf};
 ghost use Rattle.ioa_run.specs.Points.{EndsAt, IsEnd};
 
-use crate::assessed::Assessed;
 use crate::choice::choose;
 use crate::crew::Crew;
 use crate::gate::{Gate, Point};
 use crate::own_room::Terms;
-use crate::plan::{Plan, assess, plan_by};
-use crate::planned::Planned;
-use crate::report::Why;
+use crate::tally::Pick;
 use crate::turn::next_input;
-use crate::verdict::Verdict;
+use ioa_board::{Assessed, Plan, Planned, Verdict, Why, assess, plan_by};
 use ioa_node::{NodeState, Words, Workspace};
 use ioa_system::Participation;
 use ioa_value::{Action, OutOfMemory};
@@ -71,20 +68,22 @@ impl<'a, 'p, R: Wait, T: Terms, G: Gate> Worker<'a, 'p, R, T, G> {
     ) -> Result<Option<Point>, OutOfMemory>
         ensures { IfOk result (λ r. IfSome r IsEnd) }
     {
-        match self.wish(workspace, source)? {
-            Some(action) => self.attempt(action),
-            None => Ok(Some(self.idle())),
+        let mut pick = Pick::none();
+        match self.wish(workspace, source, &mut pick)? {
+            Some(action) => self.attempt(action, pick),
+            None => Ok(Some(self.idle(pick))),
         }
     }
 
-    /// What the worker means to do, or nothing.
+    /// What the worker means to do, or nothing; and which entry it tries, where it is a component.
     fn wish<W: Words>(
         &self,
         workspace: &mut Workspace,
         source: &mut Source<W>,
+        pick: &mut Pick,
     ) -> Result<Option<Action>, OutOfMemory> {
         match source {
-            Source::Words(words) => self.choice(workspace, words),
+            Source::Words(words) => self.choice(workspace, words, pick),
             Source::Script => self.next_of_script(),
         }
     }
@@ -100,6 +99,7 @@ impl<'a, 'p, R: Wait, T: Terms, G: Gate> Worker<'a, 'p, R, T, G> {
         &self,
         workspace: &mut Workspace,
         words: &mut W,
+        pick: &mut Pick,
     ) -> Result<Option<Action>, OutOfMemory> {
         let members = self.crew.program.members();
         if self.who >= members.len() {
@@ -112,18 +112,19 @@ impl<'a, 'p, R: Wait, T: Terms, G: Gate> Worker<'a, 'p, R, T, G> {
             &members[self.who].entries,
             &own[0],
             words,
+            pick,
         )
     }
 
     /// Plans the action and commits the plan, with the gate between.
-    fn attempt(&self, action: Action) -> Result<Option<Point>, OutOfMemory>
+    fn attempt(&self, action: Action, pick: Pick) -> Result<Option<Point>, OutOfMemory>
         ensures { IfOk result (λ r. IfSome r IsEnd) }
     {
         let Planned::Ready(plan) = self.plan(action)? else {
-            return Ok(Some(self.idle()));
+            return Ok(Some(self.idle(pick)));
         };
         self.gate.reach(self.who, Point::Planned);
-        self.commit(plan)
+        self.commit(plan, pick)
     }
 
     /// The worker's plan for the action, by copies of the participants' states as they are now: others may have committed since it was chosen.
@@ -146,12 +147,12 @@ impl<'a, 'p, R: Wait, T: Terms, G: Gate> Worker<'a, 'p, R, T, G> {
     }
 
     /// Commits the plan, and where the turn then ends.
-    fn commit(&self, plan: Plan<'p>) -> Result<Option<Point>, OutOfMemory>
+    fn commit(&self, plan: Plan<'p>, pick: Pick) -> Result<Option<Point>, OutOfMemory>
         requires who { self.now.who ≡ plan.who }
         requires program { plan.program ≡ T.program }
         ensures { IfOk result (λ r. IfSome r IsEnd) }
     {
-        self.end_by(self.crew.commit(self.rt, self.who, plan))
+        self.end_by(self.crew.commit(self.rt, self.who, plan, pick))
     }
 
     /// Where a turn ends whose commit is answered so. A worker that is stopped leaves.
@@ -172,11 +173,11 @@ impl<'a, 'p, R: Wait, T: Terms, G: Gate> Worker<'a, 'p, R, T, G> {
     }
 
     /// Counts a turn in which there is nothing to commit, and ends it.
-    fn idle(&self) -> Point
+    fn idle(&self, pick: Pick) -> Point
         ensures at { result ≡ points.Idle }
         ensures end { IsEnd result }
     {
-        self.crew.idle(self.rt, self.who);
+        self.crew.idle(self.rt, self.who, pick);
         Point::Idle
     }
 }

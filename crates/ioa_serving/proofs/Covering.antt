@@ -1,22 +1,32 @@
 -- What is told of a program's entries is told of those of what it runs as.
-use Rattle.std.proofs.Common.{◌≡◌, ◌⊎◌, ◌+◌, ◌∙◌, ◌≤◌, ◌<◌, ◌-◌, ◌^◌, ◌∷◌, ℕ, Bool, true, false, List, [], Option, None, Some, IfSome, ap, ap₂, arith, if◌then◌else◌, inl, inr, length, refl, subst, sym, take}
+use Rattle.std.proofs.Common.{◌≡◌, ◌⊎◌, ◌+◌, ◌∙◌, ◌≤◌, ◌<◌, ◌-◌, ◌^◌, ◌∷◌, ◌++◌, ◌&&◌, ℕ, Bool, true, false, List, [], Option, None, Some, IfSome, ap, ap₂, arith, if◌then◌else◌, inl, inr, length, map, refl, subst, sym, take}
+use Rattle.std.specs.Prelude.{count_by}
 use Rattle.std.specs.Io.KnownBytes.{Appends}
+use Rattle.std.specs.List.{AllZip, flat_map}
+use Rattle.std.specs.Str.{bytes_eq}
 use Rattle.std.proofs.lemmas.Option.{IfSome_then}
 use Rattle.std.proofs.lemmas.List.{length-map, take-map}
 use Rattle.std.specs.String.{string_bytes}
+use mathlib.Core.Path.{fun_ext}
 use Rattle.ioa_value.specs.Actions.{Act, Name, act_of}
 use Rattle.ioa_value.specs.Lists as lists
 use Rattle.ioa_value.specs.Lists.{ReadsList}
 use Rattle.ioa_value.specs.Table.{AreTypes, Table}
 use Rattle.ioa_value.proofs.ListOnceLemmas.{lines_once}
 use Rattle.ioa_tree.specs.Components.{Component}
+use Rattle.ioa_tree.specs.Compositions.{Member}
+use Rattle.ioa_tree.specs.Instances.{entry_has, positions_have}
 use Rattle.ioa_tree.specs.Runs.{Ending, after, done, fault_at, not_an_action_at, not_enabled_at, run, run_from}
 use Rattle.ioa_tree.specs.Steps.{Moved, fault, next, not_an_action, not_enabled, step}
-use Rattle.ioa_compile.specs.Programs.{Prog}
-use Rattle.ioa_compile.specs.Subjects as compiled
-use Rattle.ioa_compile.specs.Tables.{start_states, tabled}
+use Rattle.ioa_tree.specs.Tree.{EntryTree}
+use Rattle.ioa_tree.proofs.Domains.{domains_have}
+use Rattle.ioa_compile.specs.Matching.{MatchesEntry, MatchesMember}
+use Rattle.ioa_compile.specs.Programs.{EntryCode, MemberCode, Prog}
+use Rattle.ioa_compile.specs.Subjects.{RunsAs, Subject, its_components, its_starts, its_types, of_composition, of_hosts, of_table}
+use Rattle.ioa_compile.specs.Tables.{is_in}
+use Rattle.ioa_compile.proofs.Subjects.{does_as}
 use Rattle.ioa_coverage.specs.Counts.{entered}
-use Rattle.ioa_coverage.specs.Performed.{counted_table, coverage_text}
+use Rattle.ioa_coverage.specs.Performed.{Counted, counted_table, coverage_text, how_often, of_code, of_member}
 use Rattle.ioa_coverage.proofs.Hosting.{coverage_is_the_hosts}
 use Rattle.ioa_system.specs.declared.log.Log.{Log}
 use Rattle.ioa_system.specs.declared.log.LogEnd.{LogEnd}
@@ -24,31 +34,60 @@ use Rattle.ioa_system.specs.declared.log.LogEntry.{LogEntry}
 use Rattle.ioa_system.specs.declared.outcomes.End.{End}
 use Rattle.ioa_system.specs.Logs.{Logged, actions_of, is_fault, log_end, logged}
 use Rattle.ioa_system.specs.Outcomes.{ending_of, performed_by}
-use Rattle.ioa_log.specs.declared.failure.LogErr.{LogErr}
+use Rattle.ioa_device.specs.declared.failure.LogErr.{LogErr}
+use Rattle.ioa_device.specs.Failing.{FailedOnceAtMost, HasFailed, IsListErr}
 use Rattle.ioa_log.specs.declared.reading.Replayed.{Replayed}
-use Rattle.ioa_log.specs.Failing.{FailedOnceAtMost, HasFailed, IsListErr}
 use Rattle.ioa_log.specs.LogReplays.{IsReplayedAs}
 use Rattle.ioa_log.specs.LogTexts.{ReadsLog}
-use Rattle.ioa_log.specs.Readings.{IsReplayed}
-use Rattle.ioa_log.specs.Replays.{run_text}
+use Rattle.ioa_log.specs.Readings.{IsListReplayed}
 use Rattle.ioa_log.proofs.OneLog.{one_log}
 use Rattle.ioa_serving.specs.AtHand.{failures_of}
-use Rattle.ioa_serving.specs.Coverage.{BeginsCoverageOf, CoversRun, CoversList, CoversLog, IsCoverageFailure, IsNoListOf, IsUncovered, behind, covered_text, performed_of, table_coverage, told_coverage}
+use Rattle.ioa_serving.specs.Coverage.{BeginsCoverageOf, CoversRun, CoversList, CoversLog, IsCoverageFailure, IsNoListOf, IsUncovered, behind, covered_text, of_member_entry, performed_of, table_coverage, told_coverage}
 use Rattle.ioa_serving.specs.declared.failure.Failure.{Failure}
 use Rattle.ioa_serving.specs.Failing.{IsFailure, IsLogReplayFailure, IsNoLogOf, IsRefusedGiven}
 use Rattle.ioa_serving.specs.Headline.{IsFileOf}
 use Rattle.ioa_serving.specs.Logs.{IsRunLog, performed_in}
 use Rattle.ioa_serving.specs.Objects.{rendered}
-use Rattle.ioa_serving.specs.Running.{RunsAs}
-use Rattle.ioa_serving.specs.Subjects.{Subject, of_hosts, of_table, its_components, its_hidden, its_starts, its_types}
-use Rattle.ioa_serving.proofs.Carried.{same_text}
-use Rattle.ioa_serving.proofs.Hosted.{ending_same, performed_same}
 use Rattle.ioa_serving.proofs.Logged.{performed_are}
 use Rattle.ioa_serving.proofs.Refused.{list_ungiven, log_replay_refused, log_replay_ungiven}
-use Rattle.ioa_serving.proofs.Subjects.{as_compiled, of_both, types_as}
+
+-- ---- the entries of a composition
+
+-- the table's entry has the actions of the automaton's
+in_table : (m : Member) (c : MemberCode) (e : EntryTree) (d : EntryCode) (a : Act) → MatchesMember m c → MatchesEntry m e d → is_in c.start.table a d ≡ entry_has m.instance a e
+in_table m c e d a matches h =
+    ap (λ (types : Table). is_in types a d) matches.types
+    ∙ sym (ap (λ (b : Bool). bytes_eq d.name a.name && b) (domains_have m.instance e.positions d.positions a.vals h.positions))
+    ∙ ap (λ (n : Name). bytes_eq n a.name && positions_have m.instance e.positions a.vals) h.name
+
+entry_counted : (acts : List Act) (m : Member) (c : MemberCode) (e : EntryTree) (d : EntryCode) → MatchesMember m c → MatchesEntry m e d → of_code acts c d ≡ of_member_entry acts m e
+entry_counted acts m c e d matches h =
+    let test : (λ (a : Act). is_in c.start.table a d) ≡ (λ (a : Act). entry_has m.instance a e) = fun_ext (λ a. in_table m c e d a matches h) in
+    ap (λ (x : Name). how_often x d.name (count_by (λ a. is_in c.start.table a d) acts)) matches.name
+    ∙ ap (λ (x : Name). how_often m.name x (count_by (λ a. is_in c.start.table a d) acts)) h.name
+    ∙ ap (λ (t : Act → Bool). how_often m.name e.name (count_by t acts)) test
+
+entries_counted : (acts : List Act) (m : Member) (c : MemberCode) → MatchesMember m c → (es : List EntryTree) (ds : List EntryCode) → AllZip (MatchesEntry m) es ds
+    → map (of_code acts c) ds ≡ map (of_member_entry acts m) es
+entries_counted acts m c matches [] [] h = refl
+entries_counted acts m c matches [] (d ∷ ds) h = absurd h
+entries_counted acts m c matches (e ∷ es) [] h = absurd h
+entries_counted acts m c matches (e ∷ es) (d ∷ ds) h =
+    ap₂ (λ (x : Counted) (xs : List Counted). x ∷ xs) (entry_counted acts m c e d matches h.0) (entries_counted acts m c matches es ds h.1)
+
+members_counted : (acts : List Act) (ms : List Member) (cs : List MemberCode) → AllZip MatchesMember ms cs
+    → flat_map (of_member acts) cs ≡ flat_map (λ (m : Member). map (of_member_entry acts m) m.instance.automaton.entries) ms
+members_counted acts [] [] h = refl
+members_counted acts [] (c ∷ cs) h = absurd h
+members_counted acts (m ∷ ms) [] h = absurd h
+members_counted acts (m ∷ ms) (c ∷ cs) h =
+    ap₂ (λ (x y : List Counted). x ++ y) (entries_counted acts m c h.0 m.instance.automaton.entries c.entries h.0.entries) (members_counted acts ms cs h.1)
+
+-- ---- what is told of them
 
 pub covered_as : (p : Prog) (s : Subject) (acts : List Act) → RunsAs p s → coverage_text (counted_table p acts) ≡ covered_text s acts
 covered_as p (of_hosts h) acts runs = ap coverage_text (coverage_is_the_hosts p h acts runs)
+covered_as p (of_composition c) acts means = ap coverage_text (members_counted acts c.members p.members means.tables)
 covered_as p (of_table q) acts same = ap (λ (r : Prog). coverage_text (counted_table r acts)) same
 
 pub coverage_same : (p : Prog) (s : Subject) → RunsAs p s → (asked : Bool) (acts : List Act) → table_coverage p asked acts ≡ told_coverage s asked acts
@@ -83,32 +122,27 @@ end_index (End.Fault c f i) = refl
 -- ---- a list
 
 module _ (p : Prog) (s : Subject) (runs : RunsAs p s) where
-  performed_count : (acts : List Act) (e : End) → ending_of e ≡ (run (tabled p) acts (start_states p)).ending → performed_by e ≡ (run (its_components s) acts (its_starts s)).performed
-  performed_count acts e ends =
-      sym (end_index e) ∙ ap index_of ends ∙ sym (performed_index (tabled p) acts 0 (start_states p)) ∙ sym (performed_same p s runs acts)
+  performed_count : (acts : List Act) (e : End) → ending_of e ≡ (run (its_components s) acts (its_starts s)).ending → performed_by e ≡ (run (its_components s) acts (its_starts s)).performed
+  performed_count acts e ends = sym (end_index e) ∙ ap index_of ends ∙ sym (performed_index (its_components s) acts 0 (its_starts s))
 
-  text_as : (acts : List Act) → run_text p.types p.hidden (tabled p) (start_states p) acts ≡ run_text (its_types s) (its_hidden s) (its_components s) (its_starts s) acts
-  text_as acts =
-      of_both p s (λ x. run_text p.types p.hidden (tabled p) (start_states p) acts ≡ run_text (its_types x) (its_hidden x) (its_components x) (its_starts x) acts) runs refl
-      (λ h c stands means. same_text p h c stands means acts)
-
-  pub covers_list : AreTypes p.types → (bytes : List ℕ) (r : Replayed) (told : List ℕ) (entries : List LogEntry) (n : ℕ) → IsReplayed p bytes r
+  pub covers_list : AreTypes p.types → (bytes : List ℕ) (r : Replayed) (told : List ℕ) (entries : List LogEntry) (n : ℕ) → IsListReplayed p s bytes r
       → ReadsList p.types bytes (entered entries) → n ≡ performed_by r.end → told ≡ coverage_text (counted_table p (entered (take n entries)))
       → CoversList s bytes (ending_of r.end) (string_bytes r.text) told
   covers_list declared bytes r told entries n k reads count is =
       let acts = k.acts in
-      let all : entered entries ≡ acts = lines_once p.types declared (lists.lines bytes) (entered entries) acts reads k.reads in
+      let own : ReadsList p.types bytes acts = subst (λ (ts : Table). ReadsList ts bytes acts) (sym (does_as p s runs).types) k.reads in
+      let all : entered entries ≡ acts = lines_once p.types declared (lists.lines bytes) (entered entries) acts reads own in
       let first : entered (take n entries) ≡ performed_of s acts =
       sym (take-map (λ (e : LogEntry). act_of e.action) n entries) ∙ ap (take n) all ∙ ap (λ m. take m acts) (count ∙ performed_count acts r.end k.ending) in (
         acts,
-        subst (λ (ts : Table). ReadsList ts bytes acts) (types_as p s runs) k.reads,
-        k.ending ∙ sym (ending_same p s runs acts),
-        k.text ∙ text_as acts,
+        k.reads,
+        k.ending,
+        k.text,
         is ∙ ap (λ (xs : List Act). coverage_text (counted_table p xs)) first ∙ covered_as p s (performed_of s acts) runs,
       )
 
   pub no_list : (bytes : List ℕ) (x : LogErr) → IsListErr x → (x ≡ LogErr.Io → ⊥) → ((n : ℕ) → x ≡ LogErr.BadEntry n → lists.BadLine p.types bytes n) → IsNoListOf x s bytes
-  no_list bytes (LogErr.BadEntry n) only io bad = subst (λ (ts : Table). lists.BadLine ts bytes n) (types_as p s runs) (bad n refl)
+  no_list bytes (LogErr.BadEntry n) only io bad = subst (λ (ts : Table). lists.BadLine ts bytes n) (does_as p s runs).types (bad n refl)
   no_list bytes LogErr.Io only io bad = io refl
   no_list bytes LogErr.OutOfMemory only io bad = tt
   no_list bytes (LogErr.NotJson n) only io bad = only
@@ -123,12 +157,11 @@ module _ (p : Prog) (declared : AreTypes p.types) (bytes : List ℕ) (r : Replay
     (performed : acts ≡ performed_in (logged log)) (is : told ≡ coverage_text (counted_table p acts)) where
   told_as : (s : Subject) (runs : RunsAs p s) (l : Logged) → ReadsLog (its_types s) bytes l → told ≡ covered_text s (performed_in l)
   told_as s runs l other =
-      let same : logged log ≡ l = one_log p.types bytes (logged log) l declared reads (subst (λ (ts : Table). ReadsLog ts bytes l) (sym (types_as p s runs)) other) in
+      let same : logged log ≡ l = one_log p.types bytes (logged log) l declared reads (subst (λ (ts : Table). ReadsLog ts bytes l) (sym (does_as p s runs).types) other) in
       is ∙ ap (λ (xs : List Act). coverage_text (counted_table p xs)) (performed ∙ ap performed_in same) ∙ covered_as p s (performed_in l) runs
 
-  pub covers_log : (s : Subject) → RunsAs p s → IsReplayedAs p (as_compiled s) bytes r → CoversLog s bytes (ending_of r.end) (string_bytes r.text) told
-  covers_log (of_hosts h) runs k = (k.log, k.is_log, k.ending, k.text, told_as (of_hosts h) runs k.log k.is_log.0)
-  covers_log (of_table q) runs k = (k.log, k.is_log, k.ending, k.text, told_as (of_table q) runs k.log k.is_log.0)
+  pub covers_log : (s : Subject) → RunsAs p s → IsReplayedAs p s bytes r → CoversLog s bytes (ending_of r.end) (string_bytes r.text) told
+  covers_log s runs k = (k.log, k.is_log, k.ending, k.text, told_as s runs k.log k.is_log.0)
 
 -- ---- a text at hand does not fail
 

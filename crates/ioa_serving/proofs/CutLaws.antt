@@ -12,10 +12,10 @@ use Rattle.ioa_value.specs.Table.{AreTypes, Table}
 use Rattle.ioa_value.proofs.SkippedLemmas.{unread}
 use Rattle.ioa_tree.specs.Runs.{done}
 use Rattle.ioa_system.specs.Logs.{Logged}
-use Rattle.ioa_log.specs.LineReading.{IsLineText}
+use Rattle.ioa_device.specs.LineReading.{IsLineText}
+use Rattle.ioa_device.proofs.LineReading.{lines_line}
 use Rattle.ioa_log.specs.LogLines.{IsEntryLine, end_line}
 use Rattle.ioa_log.specs.LogTexts.{IsLegal, ReadsLog}
-use Rattle.ioa_log.proofs.LineReading.{lines_line}
 use Rattle.ioa_log.proofs.WrittenLogs.{written_log_read}
 use Rattle.ioa_serving.proofs.Cutting.{take_whole}
 use Rattle.ioa_serving.specs.Cuts.{CutsLists, CutsLogs, KeepsShortLogs, cut_log, first_listed, left_after, text_of}

@@ -9,10 +9,10 @@ use Rattle.ioa_tree.specs.Meaning.{Env}
 use Rattle.ioa_links.specs.Delivery.{Begins, delivered, performed, sent}
 use Rattle.ioa_links.specs.Trees.{stenning_source}
 use Rattle.ioa_links.proofs.Stands.{stenning_delivers}
-use Rattle.ioa_run.specs.Boards.{IsSound, Standing}
-use Rattle.ioa_run.specs.Histories.{acts_of}
+use Rattle.ioa_board.specs.Boards.{IsSound, Standing}
+use Rattle.ioa_board.specs.Histories.{acts_of}
 use Rattle.ioa_run.proofs.Hosting.{host_history}
-use Rattle.ioa_run.proofs.Performing.{legal_run}
+use Rattle.ioa_board.proofs.Performing.{legal_run}
 use Rattle.ioa_serving.specs.Delivering.{HistoriesDeliver, ObjectsDeliver, protocol_name}
 use Rattle.ioa_serving.specs.Headline.{Declares, Spells}
 use Rattle.ioa_serving.proofs.CarriedRuns.{histories_as_source}

@@ -13,8 +13,8 @@ use Rattle.ioa_system.specs.declared.outcomes.Step.{Step}
 use Rattle.ioa_system.specs.Logs.{is_fault, log_end, logged}
 use Rattle.ioa_system.proofs.Finding.{read_map}
 use Rattle.ioa_account.proofs.Remarking.{entered}
-use Rattle.ioa_log.specs.Monitoring.{monitored_from}
-use Rattle.ioa_log.proofs.Monitored.{by_answer}
+use Rattle.ioa_monitor.specs.Monitoring.{monitored_from}
+use Rattle.ioa_monitor.proofs.Monitored.{by_answer}
 use Rattle.ioa_serving.specs.Logs.{performed_in}
 use Rattle.ioa_serving.proofs.Logged.{performed_are, performed_by}
 

@@ -40,7 +40,7 @@ pub mod Sowing
 pub mod Specified
 pub mod Streams
 pub mod Strictly
-pub mod Subjects
+pub mod TalliedLines
 pub mod ToldObjects
 pub mod Traced
 pub mod Unrun

@@ -13,8 +13,8 @@ use Rattle.ioa_system.specs.declared.log.Log.{Log}
 use Rattle.ioa_system.specs.declared.log.LogEnd.{LogEnd}
 use Rattle.ioa_system.specs.Outcomes.{ending_of}
 use Rattle.ioa_system.specs.Logs.{Logged, actions_of, is_fault, log_end, logged}
-use Rattle.ioa_log.specs.declared.broken_invariants.Broken.{Broken}
-use Rattle.ioa_log.specs.Breaking.{broken_of}
+use Rattle.ioa_inspect.specs.declared.broken_invariants.Broken.{Broken}
+use Rattle.ioa_inspect.specs.Breaking.{broken_of}
 use Rattle.ioa_account.proofs.Remarking.{entered, entered_are}
 use Rattle.ioa_serving.specs.declared.invariant_replay.Finding.{Finding}
 use Rattle.ioa_serving.specs.Logs.{broken, found_in, found_of, performed_in, unbroken}

@@ -8,9 +8,9 @@ use Rattle.ioa_value.specs.Table.{AreTypes, Table}
 use Rattle.ioa_value.specs.Written.{written_action}
 use Rattle.ioa_tree.specs.Runs.{Ending}
 use Rattle.ioa_system.specs.Endings.{ending_text}
-use Rattle.ioa_log.specs.LineReading.{IsLineText}
+use Rattle.ioa_device.specs.LineReading.{IsLineText}
+use Rattle.ioa_device.proofs.LineReading.{lines_line}
 use Rattle.ioa_log.specs.Replays.{lines_of, replay_text}
-use Rattle.ioa_log.proofs.LineReading.{lines_line}
 use Rattle.ioa_log.proofs.PlainTexts.{action_plain, ending_plain, plain_text, text_line, texts}
 use Rattle.ioa_serving.specs.Objects.{ObjectsTellActions, act_object, act_objects, end_object, object_before}
 

@@ -10,7 +10,9 @@ use Rattle.ioa_value.specs.Written.{written_action}
 use Rattle.ioa_tree.specs.Components.{Component}
 use Rattle.ioa_tree.specs.Steps.{participants}
 use Rattle.ioa_compile.specs.Programs.{Prog}
+use Rattle.ioa_compile.specs.Subjects.{RunsAs, Subject, its_components, its_names, its_types}
 use Rattle.ioa_compile.specs.Tables.{tabled}
+use Rattle.ioa_compile.proofs.Subjects.{does_as, participants_as}
 use Rattle.ioa_system.specs.Logs.{Logged}
 use Rattle.ioa_picture.specs.Charts.{arrows_or_note, chart, drawn_lines, end_within, entry_lines, front, kept_lines, lines_within, names_of}
 use Rattle.ioa_picture.specs.Lines.{numbered}
@@ -18,10 +20,7 @@ use Rattle.ioa_picture.specs.Selections.{Selection, is_drawn, is_left_out, is_wi
 use Rattle.ioa_serving.specs.declared.failure.Failure.{Failure}
 use Rattle.ioa_serving.specs.Failing.{IsRefusedGiven}
 use Rattle.ioa_serving.specs.Pictures.{IsUngraphed, chart_by, framed}
-use Rattle.ioa_serving.specs.Running.{RunsAs}
-use Rattle.ioa_serving.specs.Subjects.{Subject, its_components, its_names, its_types}
-use Rattle.ioa_serving.proofs.Hosted.{names_same, participants_same}
-use Rattle.ioa_serving.proofs.Subjects.{types_as}
+use Rattle.ioa_serving.proofs.Hosted.{names_same}
 
 -- components with the same participants have the same lines
 module _ {S T : Type 0} (types : Table) (ps : List (Component S)) (qs : List (Component T)) (same : (a : Act) → participants ps a ≡ participants qs a) where
@@ -40,8 +39,8 @@ module _ {S T : Type 0} (types : Table) (ps : List (Component S)) (qs : List (Co
 pub charted_as : (selection : Selection) (p : Prog) (s : Subject) (log : Logged) → RunsAs p s
     → chart selection p.types (names_of p) (tabled p) log ≡ chart_by selection s log
 charted_as selection p s log runs =
-    ap₂ (λ ts ns. chart selection ts ns (tabled p) log) (types_as p s runs) (names_same p s runs)
-    ∙ chart_same (its_types s) (tabled p) (its_components s) (participants_same p s runs) selection (its_names s) log
+    ap₂ (λ ts ns. chart selection ts ns (tabled p) log) (does_as p s runs).types (names_same p s runs)
+    ∙ chart_same (its_types s) (tabled p) (its_components s) (participants_as p s runs) selection (its_names s) log
 
 -- ---- what is kept entry by entry
 

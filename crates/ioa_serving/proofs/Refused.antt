@@ -12,13 +12,14 @@ use Rattle.ioa_tree.specs.WellFormed.{WellFormed}
 use Rattle.ioa_tree.specs.Compositions.{picked}
 use Rattle.ioa_tree.specs.Hosts.{Hosted, IsHosted}
 use Rattle.ioa_compose.specs.Refusals as compositions
-use Rattle.ioa_log.specs.declared.failure.LogErr.{LogErr}
-use Rattle.ioa_log.specs.Failing.{IsListErr, IsTextErr}
-use Rattle.ioa_log.specs.LogMonitors.{IsNoText}
+use Rattle.ioa_compile.specs.Subjects.{Subject, its_types}
+use Rattle.ioa_device.specs.declared.failure.LogErr.{LogErr}
+use Rattle.ioa_device.specs.Failing.{IsListErr, IsTextErr}
+use Rattle.ioa_monitor.specs.Monitoring.{IsOpen}
+use Rattle.ioa_inspect.specs.LogMonitors.{IsNoText}
 use Rattle.ioa_serving.specs.declared.failure.Failure.{Failure}
 use Rattle.ioa_serving.specs.Headline.{Declares, IsFileOf, Spells}
 use Rattle.ioa_serving.specs.Failing.{Given, IsFailure, IsLogReplayFailure, IsMonitorFailure, IsNoLogOf, IsRefusedGiven, IsRefusedSource, IsUnwritten}
-use Rattle.ioa_serving.specs.Subjects.{IsOpen, Subject, its_types}
 
 -- what checking and composing answer, told of the text
 pub declared : (text : List ℕ) (name : Option Name) (s u : SourceTree) (t : CompositionTree) (h : Hosted) → Spells text s → u ≡ s → WellFormed s

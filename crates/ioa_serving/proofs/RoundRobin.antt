@@ -3,30 +3,25 @@ use Rattle.std.proofs.Common.{◌≡◌, ℕ, List, true, length}
 use Rattle.ioa_value.specs.Actions.{Act, Name}
 use Rattle.ioa_tree.specs.Proposing.{Words}
 use Rattle.ioa_compile.specs.Programs.{Prog}
+use Rattle.ioa_compile.specs.Subjects.{RunsAs, Subject, its_names}
 use Rattle.ioa_compile.specs.Tables.{IsProgram}
 use Rattle.ioa_system.specs.Logs.{Logged}
-use Rattle.ioa_run.specs.declared.outcome.Outcome.{Outcome}
+use Rattle.ioa_board.specs.declared.outcome.Outcome.{Outcome}
 use Rattle.ioa_run.specs.Alone.{IsAloneSince, NoMemory}
-use Rattle.ioa_run.proofs.Hosting.{host_alone}
+use Rattle.ioa_run.proofs.Subjects.{same_alone}
 use Rattle.ioa_request.specs.declared.settings.Settings.{Settings}
 use Rattle.ioa_serving.specs.declared.word_sources.WordSources.{WordSources}
 use Rattle.ioa_serving.specs.Alone.{AreSources, AreTurnsSince, IsExact, streams_of}
-use Rattle.ioa_serving.specs.Running.{RunsAs}
-use Rattle.ioa_serving.specs.Subjects.{Subject, its_names}
 use Rattle.ioa_serving.proofs.Given.{given}
-use Rattle.ioa_serving.proofs.Going.{hosts_resumed}
+use Rattle.ioa_serving.proofs.Going.{resumed_as}
 use Rattle.ioa_serving.proofs.Hosted.{log_of}
-use Rattle.ioa_serving.proofs.Subjects.{of_both}
 
 pub turned : (p : Prog) (x : Subject) (before : Logged) (words : List Words) (script : List Act) (turns : ℕ) (o : Outcome) → IsProgram p → RunsAs p x
     → IsAloneSince p before words script turns o → AreTurnsSince x before words script turns (log_of o.log.items o.end) o.reports.items
 turned p x before words script turns o program runs (b, resumed, a) =
-    of_both p x (λ y. AreTurnsSince y before words script turns (log_of o.log.items o.end) o.reports.items) runs
-    (b, resumed, record { entries = a.log.entries; ends = a.log.ends; told = a.reports })
-    (λ h c s m.
-    let d = hosts_resumed p h c s m before b resumed in
-    let k = host_alone p h c before d.0 b words script turns o program s m (record { subject = d.1; program = resumed }) a in
-    (d.0, d.1, record { entries = k.log.entries; ends = k.log.ends; told = k.reports }))
+    let d = resumed_as p x runs before b resumed in
+    let k = same_alone p x before d.0 b words script turns o program runs (record { subject = d.1; program = resumed }) a in
+    (d.0, d.1, record { entries = k.log.entries; ends = k.log.ends; told = k.reports })
 
 -- by the words that were read
 pub exactly : (holds : Name → List ℕ → Type 0) (s : Settings) (p : Prog) (x : Subject) (before : Logged) (script : List Act) (o : Outcome) (sources : WordSources) (m : ℕ) → IsProgram p

@@ -3,8 +3,8 @@ use Rattle.std.proofs.Common.{ℕ, List, Some, Err, refl}
 use Rattle.std.specs.Result.{IsErrOf}
 use Rattle.ioa_value.specs.Actions.{Name}
 use Rattle.ioa_value.specs.Table.{Table}
-use Rattle.ioa_log.specs.declared.failure.LogErr.{LogErr}
-use Rattle.ioa_log.specs.Failing.{IsTextErr}
+use Rattle.ioa_device.specs.declared.failure.LogErr.{LogErr}
+use Rattle.ioa_device.specs.Failing.{IsTextErr}
 use Rattle.ioa_log.specs.LogTexts.{GoesOnAt, HasNoEnd, NoEntryAt, NotJsonAt}
 use Rattle.ioa_serving.specs.Resuming.{IsLogless, unread_log}
 

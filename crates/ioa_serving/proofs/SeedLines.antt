@@ -14,9 +14,10 @@ use Rattle.ioa_compile.specs.Tables.{tabled}
 use Rattle.ioa_system.specs.declared.outcomes.End.{End}
 use Rattle.ioa_system.specs.Logs.{Logged, is_fault}
 use Rattle.ioa_system.specs.Outcomes.{ending_of}
-use Rattle.ioa_run.specs.declared.outcome.Outcome.{Outcome}
-use Rattle.ioa_run.specs.Alone.{IsFirstOther, IsInput, RefusesResumed}
-use Rattle.ioa_run.specs.declared.run_err.RunErr.{RunErr}
+use Rattle.ioa_board.specs.declared.outcome.Outcome.{Outcome}
+use Rattle.ioa_board.specs.ProgramRooms.{IsInput}
+use Rattle.ioa_run.specs.Alone.{IsFirstOther, RefusesResumed}
+use Rattle.ioa_board.specs.declared.run_err.RunErr.{RunErr}
 use Rattle.ioa_serving.specs.Seeds.{Judged, broken_among, dones_among, faults_among, is_broken, refusals_among, refusals_from, seed_line, seed_lines, with_refusals}
 use Rattle.ioa_serving.specs.declared.seed_counts.Counts.{Counts}
 use Rattle.ioa_serving.specs.declared.sown.Sown.{Sown}

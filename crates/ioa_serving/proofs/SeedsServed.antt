@@ -12,30 +12,27 @@ use Rattle.ioa_compose.specs.declared.composition.Composition.{Composition}
 use Rattle.ioa_compose.specs.Held.{composed_of}
 use Rattle.ioa_compose.proofs.StandLemmas.{stands_broken}
 use Rattle.ioa_compile.specs.Programs.{Prog}
-use Rattle.ioa_compile.specs.Subjects as compiled
-use Rattle.ioa_compile.specs.Subjects.{InSlots}
 use Rattle.ioa_compile.specs.Tables.{start_states, tabled}
 use Rattle.ioa_compile.proofs.Subjects.{does_as}
+use Rattle.ioa_compile.specs.Subjects.{InSlots, Runs, RunsAs, Subject, its_components, its_starts, of_composition, of_hosts, of_table}
 use Rattle.ioa_system.specs.Logs.{Logged, actions_of, log_end, logged}
-use Rattle.ioa_log.proofs.Monitored.{monitored_like}
-use Rattle.ioa_run.specs.declared.outcome.Outcome.{Outcome}
+use Rattle.ioa_monitor.proofs.Monitored.{monitored_like}
+use Rattle.ioa_board.specs.declared.outcome.Outcome.{Outcome}
 use Rattle.ioa_run.specs.Alone.{IsOutcomeFrom, RefusesResumed}
-use Rattle.ioa_run.specs.Outcomes.{HaveEnded}
+use Rattle.ioa_board.specs.Outcomes.{HaveEnded}
 use Rattle.ioa_run.specs.Seeds.{words_from}
 use Rattle.ioa_request.specs.Keys.{numbered_key}
 use Rattle.ioa_serving.specs.Alone.{CameOf, HaveOwn, IsExact, IsReady, IsUnrun}
 use Rattle.ioa_serving.specs.HasRun.{HasReady}
 use Rattle.ioa_serving.specs.Logs.{answer_to, performed_in}
-use Rattle.ioa_serving.specs.Running.{Runs, RunsAs}
 use Rattle.ioa_serving.specs.Streams.{key_words}
-use Rattle.ioa_serving.specs.Subjects.{Subject, of_hosts, of_table}
 use Rattle.ioa_serving.proofs.Covering.{coverage_same}
 use Rattle.ioa_serving.proofs.Given.{key_given}
 use Rattle.ioa_serving.proofs.Going.{resumed_as}
 use Rattle.ioa_serving.proofs.Hosted.{count_same, inputs_same, is_run, log_of}
 use Rattle.ioa_serving.proofs.RoundRobin.{turned}
 use Rattle.ioa_serving.proofs.Unrun.{unrun_by}
-use Rattle.ioa_run.specs.declared.run_err.RunErr.{RunErr}
+use Rattle.ioa_board.specs.declared.run_err.RunErr.{RunErr}
 use Rattle.ioa_serving.specs.declared.failure.Failure.{Failure}
 use Rattle.ioa_serving.specs.declared.seed_tally.Tally.{Tally}
 use Rattle.ioa_serving.specs.declared.sown.Sown.{Sown}
@@ -50,7 +47,6 @@ use Rattle.ioa_serving.specs.Seeds.{AreSeedsJudged, AreSown, IsAnswerOf, IsInspe
 use Rattle.ioa_serving.specs.SeedRuns.{AreSeedJudgments, HasSown, IsBegun, IsNoneRun, IsSeedJudgment, IsSeedRefused, IsSeedRun, IsSpecification, IsTold, StandsFor, broken_in, table_answer}
 use Rattle.ioa_serving.specs.Serving.{run_failure}
 use Rattle.ioa_serving.proofs.SeedsTold.{status_same}
-use Rattle.ioa_serving.proofs.Subjects.{types_as}
 
 -- what came of a run on one thread, by its words
 came_alone : (holds : Name → List ℕ → Type 0) (s : Settings) (p : Prog) (o : Outcome) (x : Subject) (script : List Act) (before : Logged) → IsReady holds s x script before → RunsAs p x
@@ -73,9 +69,9 @@ came_alone holds s p o x script before ready runs fine (b, log, goes, told) ende
 -- what a specification's table answers, its hosts do
 answer_same : (p : Prog) (h : Hosted) (log : Logged) → Runs p h → table_answer log p ≡ answer_to (of_hosts h) log
 answer_same p h log runs =
-    let s = compiled.of_hosts h in
+    let s = of_hosts h in
     let k = does_as p s runs in
-    sym (monitored_like (InSlots p s) (compiled.its_components s) (tabled p) (performed_in log) (compiled.its_starts s) (start_states p) k.components k.starts)
+    sym (monitored_like (InSlots p s) (its_components s) (tabled p) (performed_in log) (its_starts s) (start_states p) k.components k.starts)
 
 answers_as : (text : List ℕ) (log : Logged) (names : List Name) (ps : List Prog) → AllZip (IsSpecification text) names ps
     → AllZip (IsAnswerOf text log) names (map (table_answer log) ps)
@@ -118,6 +114,7 @@ inspected_as : (asked : Bool) (x : Subject) (c : Option Composition) (log : Logg
 inspected_as false x c log o none is = is ∙ ap (λ d. broken_in d log) none
 inspected_as true (of_hosts h) (Some c) log o stands is = is ∙ ap Some (sym (stands_broken h (composed_of c) stands (actions_of log)))
 inspected_as true (of_hosts h) None log o stands is = absurd stands
+inspected_as true (of_composition d) c log o stands is = absurd stands
 inspected_as true (of_table p) c log o stands is = absurd stands
 
 -- so many specifications answer
@@ -178,7 +175,7 @@ module _ (f : Files) (s : Seeds) (w : Sown) (k : HasSown f.holds s w) (room : If
       output = told.output;
       shortest = option_map logged t.shortest;
       is_shortest = told.tallied.1;
-      keeps = subst (λ (ts : Table). IsKeptIn f ts (option_copied s.keep) (option_map logged t.shortest)) (same ∙ types_as w.ready.program k.ready.subject k.ready.runs) keeps;
+      keeps = subst (λ (ts : Table). IsKeptIn f ts (option_copied s.keep) (option_map logged t.shortest)) (same ∙ (does_as w.ready.program k.ready.subject k.ready.runs).types) keeps;
       told = told_them ∙ coverage_same w.ready.program k.ready.subject k.ready.runs s.run.coverage (performed_by_all js);
       status = status ∙ status_same w s (names_count f.holds s w k) t js told.tallied;
     }

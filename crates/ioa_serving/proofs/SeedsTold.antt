@@ -2,7 +2,7 @@
 use Rattle.std.proofs.Common.{◌≡◌, ◌∙◌, ◌++◌, ◌<◌, ◌≤◌, ◌+◌, ◌^◌, ℕ, List, Option, ap, ap₂, arith, inl, inr, length, refl, subst, sym, take}
 use Rattle.std.specs.Io.KnownBytes.{Appends}
 use Rattle.std.proofs.KnownBytes.{Appends-trans}
-use Rattle.ioa_log.specs.declared.failure.LogErr.{LogErr}
+use Rattle.ioa_device.specs.declared.failure.LogErr.{LogErr}
 use Rattle.ioa_request.specs.declared.seeds.Seeds.{Seeds}
 use Rattle.ioa_serving.specs.declared.failure.Failure.{Failure}
 use Rattle.ioa_serving.specs.declared.seed_tally.Tally.{Tally}

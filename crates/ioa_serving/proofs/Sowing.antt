@@ -14,6 +14,7 @@ use Rattle.ioa_tree.specs.Tree.{CompositionTree, SourceTree}
 use Rattle.ioa_tree.specs.WellFormed.{WellFormed}
 use Rattle.ioa_compose.specs.Refusals as composing
 use Rattle.ioa_compile.specs.Programs.{Prog}
+use Rattle.ioa_compile.specs.Subjects.{Subject}
 use Rattle.ioa_request.specs.declared.seeds.Seeds.{Seeds}
 use Rattle.ioa_serving.specs.declared.failure.Failure.{Failure}
 use Rattle.ioa_serving.specs.Alone.{IsUnrun}
@@ -21,7 +22,6 @@ use Rattle.ioa_serving.specs.Failing.{IsRefusedGiven, IsRefusedNamed}
 use Rattle.ioa_serving.specs.Headline.{Spells, begins_object}
 use Rattle.ioa_request.specs.Pasted.{texts}
 use Rattle.ioa_serving.specs.SeedRuns.{IsSpecification, StandsFor}
-use Rattle.ioa_serving.specs.Subjects.{Subject}
 use Rattle.ioa_serving.specs.Seeds.{IsUnmonitored, monitors_of}
 use Rattle.ioa_serving.specs.Watching.{IsUnwatched, Specifies}
 use Rattle.ioa_serving.proofs.Refused.{declared}

@@ -11,13 +11,12 @@ use Rattle.ioa_tree.specs.Hosts.{Hosted, IsHosted}
 use Rattle.ioa_tree.specs.Tree.{CompositionTree, SourceTree}
 use Rattle.ioa_tree.specs.WellFormed.{WellFormed}
 use Rattle.ioa_compile.specs.Programs.{Prog}
-use Rattle.ioa_compile.specs.Subjects as compiled
-use Rattle.ioa_log.specs.Monitoring.{IsSeen, hides}
+use Rattle.ioa_compile.specs.Subjects.{Runs, of_hosts}
+use Rattle.ioa_monitor.specs.Monitoring.{IsSeen, hides}
 use Rattle.ioa_request.specs.Pasted.{texts}
 use Rattle.ioa_watch.proofs.AsSubjects.{hears_as_program}
 use Rattle.ioa_serving.specs.declared.failure.Failure.{Failure}
 use Rattle.ioa_serving.specs.Headline.{Spells, begins_object}
-use Rattle.ioa_serving.specs.Running.{Runs}
 use Rattle.ioa_serving.specs.Watching.{IsFirstUnspecified, IsNoSpecification, IsUnwatched, Specifies}
 
 -- ---- one
@@ -30,7 +29,7 @@ specifies s name p t h picks hosted seen runs = record {
   is_hosted = hosted;
   seen = seen;
   runs = runs;
-  refuses = λ acts. sym (hears_as_program p (compiled.of_hosts h) acts runs).refusal;
+  refuses = λ acts. sym (hears_as_program p (of_hosts h) acts runs).refusal;
 }
 
 -- ---- several

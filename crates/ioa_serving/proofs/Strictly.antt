@@ -6,22 +6,23 @@ use Rattle.std.specs.Result.{IsErrOf}
 use Rattle.std.proofs.lemmas.Bool.{eq-eqb, eqb-true, false≢true}
 use Rattle.std.proofs.lemmas.List.{take_all}
 use Rattle.std.proofs.lemmas.List.Sums.{count_by-le-length, sum_by-cons}
-use Rattle.ioa_value.specs.Actions.{Act, Name}
+use Rattle.ioa_value.specs.Actions.{Act}
 use Rattle.ioa_value.specs.Plain.{Val}
 use Rattle.ioa_value.specs.Table.{Table, contains}
 use Rattle.ioa_tree.specs.Components.{Component, has}
 use Rattle.ioa_tree.specs.Runs.{Ending, done, not_an_action_at, not_enabled_at, fault_at}
 use Rattle.ioa_tree.specs.Steps.{Moved, next, not_an_action, not_enabled, fault, step}
 use Rattle.ioa_compile.specs.Programs.{Prog}
-use Rattle.ioa_compile.specs.Subjects as compiled
+use Rattle.ioa_compile.specs.Subjects.{RunsAs, Subject}
 use Rattle.ioa_compile.specs.Tables.{start_states, tabled}
+use Rattle.ioa_compile.proofs.Subjects.{does_as}
 use Rattle.ioa_system.specs.Outcomes.{ending_of}
-use Rattle.ioa_log.specs.declared.failure.LogErr.{LogErr}
-use Rattle.ioa_log.specs.Failing.{IsTextErr}
-use Rattle.ioa_log.specs.LogMonitors.{IsNoText}
+use Rattle.ioa_device.specs.declared.failure.LogErr.{LogErr}
+use Rattle.ioa_device.specs.Failing.{IsTextErr}
+use Rattle.ioa_monitor.proofs.Acting.{is_action, step_acts}
+use Rattle.ioa_monitor.specs.Monitoring.{IsOpen, after_action, monitored, monitored_from}
 use Rattle.ioa_log.specs.LogTexts.{GoesOnAt, HasNoEnd, NoEntryAt, NotJsonAt, ReadsLog}
-use Rattle.ioa_log.specs.Monitoring.{after_action, monitored, monitored_from}
-use Rattle.ioa_log.proofs.Entries.{is_action, step_acts}
+use Rattle.ioa_inspect.specs.LogMonitors.{IsNoText}
 use Rattle.ioa_watch.specs.declared.watcher.Watcher.{Watcher}
 use Rattle.ioa_watch.specs.Names.{names_of}
 use Rattle.ioa_watch.specs.Watched.{Watching}
@@ -33,10 +34,7 @@ use Rattle.ioa_watch.proofs.EntryNames.{names_apart}
 use Rattle.ioa_watch.proofs.Watchers.{refusal_is}
 use Rattle.ioa_serving.specs.declared.verdict.Verdict.{Verdict}
 use Rattle.ioa_serving.specs.Logs.{performed_in}
-use Rattle.ioa_serving.specs.Running.{RunsAs}
 use Rattle.ioa_serving.specs.Strict.{AgreesWithMonitor, AnswersStrictly, BeginsStrict, MonitorsStrictly, StrictAnswer, answer_on, has_named, plainly, strict_answer, strict_line, strict_of, table_verdict}
-use Rattle.ioa_serving.specs.Subjects.{IsOpen, Subject, of_hosts, of_table, its_components, its_starts, its_types}
-use Rattle.ioa_serving.proofs.Subjects.{types_as}
 
 -- ---- whether something was taken
 
@@ -105,8 +103,7 @@ answered p acts w b v h took_is is =
 
 -- the subject answers as the program's table
 pub answer_as : (s : Subject) (p : Prog) (acts : List Act) → RunsAs p s → table_verdict p acts ≡ strict_answer s p acts
-answer_as (of_hosts h) p acts of = ap (answer_on (has_named (names_of p.members) acts)) (sym (hears_as_program p (compiled.of_hosts h) acts of).refusal)
-answer_as (of_table q) p acts of = ap (answer_on (has_named (names_of p.members) acts)) (sym (hears_as_program p (compiled.of_table q) acts of).refusal)
+answer_as s p acts runs = ap (answer_on (has_named (names_of p.members) acts)) (sym (hears_as_program p s acts runs).refusal)
 
 -- ---- of a log
 
@@ -138,7 +135,7 @@ monitors json s p bytes answer before after runs seen k written = record {
   runs = runs;
   seen = seen;
   log = k.0;
-  reads = subst (λ ts. ReadsLog ts bytes k.0) (types_as p s runs) k.1;
+  reads = subst (λ ts. ReadsLog ts bytes k.0) (does_as p s runs).types k.1;
   answer_is = k.2 ∙ answer_as s p (performed_in k.0) runs;
   written = written;
 }
@@ -147,7 +144,7 @@ pub begins : (json : Bool) (s : Subject) (p : Prog) (bytes : List ℕ) (answer :
     → (n : ℕ) × Appends before after (take n (strict_line json answer)) → BeginsStrict json s bytes before after
 begins json s p bytes answer before after runs seen k begun =
     let told : answer ≡ strict_answer s p (performed_in k.0) = k.2 ∙ answer_as s p (performed_in k.0) runs in
-    (p, runs, seen, (k.0, subst (λ ts. ReadsLog ts bytes k.0) (types_as p s runs) k.1, subst (λ (a : StrictAnswer). (n : ℕ) × Appends before after (take n (strict_line json a))) told begun))
+    (p, runs, seen, (k.0, subst (λ ts. ReadsLog ts bytes k.0) (does_as p s runs).types k.1, subst (λ (a : StrictAnswer). (n : ℕ) × Appends before after (take n (strict_line json a))) told begun))
 
 -- ---- beside a monitor that passes actions over
 

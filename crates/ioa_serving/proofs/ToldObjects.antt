@@ -2,16 +2,14 @@
 use Rattle.std.proofs.Common.{◌≡◌, ◌<◌, ◌++◌, ◌∷◌, [], ℕ, List, true, length, sym, ap, ap₂, ◌∙◌, append_assoc, append-nil}
 use Rattle.ioa_value.specs.Lists.{after_line, first_line, lines}
 use Rattle.ioa_value.proofs.ListLemmas.{cut_lines}
-use Rattle.ioa_tree.specs.Hosts.{Hosted}
 use Rattle.ioa_compile.specs.Programs.{Prog}
+use Rattle.ioa_compile.specs.Subjects.{Subject}
 use Rattle.ioa_system.specs.Outcomes.{ending_of}
 use Rattle.ioa_log.specs.LogReplays.{IsReplayedAs}
-use Rattle.ioa_log.specs.Readings.{IsHostReplayed, IsReplayed}
+use Rattle.ioa_log.specs.Readings.{IsListReplayed}
 use Rattle.ioa_log.specs.declared.reading.Replayed.{Replayed}
 use Rattle.ioa_serving.specs.declared.replay_objects.Told.{Told}
 use Rattle.ioa_serving.specs.Objects.{IsListTold, IsLogTold, act_objects, object_before, objects_of, rendered}
-use Rattle.ioa_serving.specs.Subjects.{Subject, of_hosts, of_table}
-use Rattle.ioa_serving.proofs.Subjects.{as_compiled}
 
 -- one line more
 pub act_put : (rest line after so_far all new : List ℕ) → 0 < length rest → line ≡ first_line rest → after ≡ after_line rest
@@ -36,35 +34,19 @@ put_another old after line new some e = e ∙ ap (λ ls. old ++ object_before ls
 
 -- ---- runs
 
-pub table_told : (p : Prog) (bytes : List ℕ) (r : Replayed) (t : Told) → IsReplayed p bytes r → t.end ≡ r.end
-    → t.objects.items ≡ objects_of r → IsListTold (of_table p) bytes t
-table_told p bytes r t k end made = record {
-  acts = k.acts;
-  reads = k.reads;
-  ending = ap ending_of end ∙ k.ending;
-  text = made ∙ ap₂ (rendered true) k.text k.ending;
-}
+module _ (p : Prog) (s : Subject) (bytes : List ℕ) (r : Replayed) (t : Told) where
+  pub list_told : IsListReplayed p s bytes r → t.end ≡ r.end → t.objects.items ≡ objects_of r → IsListTold s bytes t
+  list_told k end made = record {
+    acts = k.acts;
+    reads = k.reads;
+    ending = ap ending_of end ∙ k.ending;
+    text = made ∙ ap₂ (rendered true) k.text k.ending;
+  }
 
-pub hosts_told : (h : Hosted) (bytes : List ℕ) (r : Replayed) (t : Told) → IsHostReplayed h bytes r → t.end ≡ r.end
-    → t.objects.items ≡ objects_of r → IsListTold (of_hosts h) bytes t
-hosts_told h bytes r t k end made = record {
-  acts = k.acts;
-  reads = k.reads;
-  ending = ap ending_of end ∙ k.ending;
-  text = made ∙ ap₂ (rendered true) k.text k.ending;
-}
-
-pub log_told : (p : Prog) (s : Subject) (bytes : List ℕ) (r : Replayed) (t : Told) → IsReplayedAs p (as_compiled s) bytes r → t.end ≡ r.end
-    → t.objects.items ≡ objects_of r → IsLogTold s bytes t
-log_told p (of_hosts h) bytes r t k end made = record {
-  log = k.log;
-  is_log = k.is_log;
-  ending = ap ending_of end ∙ k.ending;
-  text = made ∙ ap₂ (rendered true) k.text k.ending;
-}
-log_told p (of_table q) bytes r t k end made = record {
-  log = k.log;
-  is_log = k.is_log;
-  ending = ap ending_of end ∙ k.ending;
-  text = made ∙ ap₂ (rendered true) k.text k.ending;
-}
+  pub log_told : IsReplayedAs p s bytes r → t.end ≡ r.end → t.objects.items ≡ objects_of r → IsLogTold s bytes t
+  log_told k end made = record {
+    log = k.log;
+    is_log = k.is_log;
+    ending = ap ending_of end ∙ k.ending;
+    text = made ∙ ap₂ (rendered true) k.text k.ending;
+  }

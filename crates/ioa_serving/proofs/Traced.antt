@@ -8,7 +8,7 @@ use Rattle.ioa_system.specs.declared.log.Log.{Log}
 use Rattle.ioa_system.specs.declared.log.LogEntry.{LogEntry}
 use Rattle.ioa_system.specs.Logs.{actions_of, logged}
 use Rattle.ioa_log.specs.Replays.{lines_of}
-use Rattle.ioa_run.specs.declared.report.Report.{Report}
+use Rattle.ioa_board.specs.declared.report.Report.{Report}
 use Rattle.ioa_account.proofs.Remarking.{entered_are}
 use Rattle.ioa_serving.specs.RunReports.{name_at, report_line, reports_text}
 

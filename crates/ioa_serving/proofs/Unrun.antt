@@ -6,8 +6,9 @@ use Rattle.std.proofs.lemmas.List.{length-map}
 use Rattle.ioa_value.specs.Actions.{Act, Name}
 use Rattle.ioa_value.specs.Table.{Table}
 use Rattle.ioa_compile.specs.Programs.{Prog}
-use Rattle.ioa_log.specs.declared.failure.LogErr.{LogErr}
-use Rattle.ioa_run.specs.declared.run_err.RunErr.{RunErr}
+use Rattle.ioa_compile.specs.Subjects.{RunsAs, Subject, its_names, its_types}
+use Rattle.ioa_device.specs.declared.failure.LogErr.{LogErr}
+use Rattle.ioa_board.specs.declared.run_err.RunErr.{RunErr}
 use Rattle.ioa_system.specs.Logs.{Logged}
 use Rattle.ioa_run.specs.Alone.{RefusesResumed}
 use Rattle.ioa_serving.specs.declared.failure.Failure.{Failure}
@@ -18,9 +19,7 @@ use Rattle.ioa_serving.specs.declared.word_sources.WordSources.{WordSources}
 use Rattle.ioa_serving.specs.Alone.{AreSources, HasBadLine, HasBadWords, HasScript, HasWords, IsReady, IsScript, IsScriptless, IsUnrun, IsWordless, MayGive, count_of}
 use Rattle.ioa_serving.specs.Failing.{IsRefusedGiven}
 use Rattle.ioa_serving.specs.Resuming.{HasBadText, IsFrom, IsLogless}
-use Rattle.ioa_serving.specs.Running.{RunsAs}
 use Rattle.ioa_serving.specs.Serving.{failure_of, run_failure}
-use Rattle.ioa_serving.specs.Subjects.{Subject, its_names, its_types}
 use Rattle.ioa_serving.specs.WordLists.{AreWords, listed}
 use Rattle.ioa_serving.proofs.Going.{refused_as, resumed_as}
 use Rattle.ioa_serving.proofs.Hosted.{inputs_same, other_same}

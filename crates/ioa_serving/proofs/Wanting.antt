@@ -7,10 +7,10 @@ use Rattle.std.proofs.KnownBytes.{Appends-trans}
 use Rattle.ioa_value.specs.Actions.{Name}
 use Rattle.ioa_value.proofs.ItemLemmas.{item_there}
 use Rattle.ioa_tree.specs.Runs.{Ending}
-use Rattle.ioa_run.specs.declared.report.Report.{Report}
-use Rattle.ioa_run.specs.declared.report.Why.{Why}
-use Rattle.ioa_run.specs.Outcomes.{IsFault, IsReason}
-use Rattle.ioa_run.specs.Reports.{counted}
+use Rattle.ioa_board.specs.declared.report.Report.{Report}
+use Rattle.ioa_board.specs.declared.report.Why.{Why}
+use Rattle.ioa_board.specs.Outcomes.{IsFault, IsReason}
+use Rattle.ioa_board.specs.Reports.{counted}
 use Rattle.ioa_serving.proofs.Pieces.{begun_first, begun_last, begun_next}
 use Rattle.ioa_serving.specs.RunReports.{SilenceMeans, name_at, want_line, wants_text}
 

@@ -7,8 +7,8 @@ use Rattle.ioa_value.specs.Table.{Table}
 use Rattle.ioa_tree.specs.Tree.{SourceTree}
 use Rattle.ioa_tree.specs.Types.{types_of}
 use Rattle.ioa_compile.specs.Programs.{Prog}
-use Rattle.ioa_log.specs.declared.failure.LogErr.{LogErr}
-use Rattle.ioa_log.specs.Failing.{IsLineErr}
+use Rattle.ioa_device.specs.declared.failure.LogErr.{LogErr}
+use Rattle.ioa_device.specs.Failing.{IsLineErr}
 use Rattle.ioa_watch.specs.declared.watcher.Watcher.{Watcher}
 use Rattle.ioa_watch.specs.Streaming.{HaveHeard, has_refused}
 use Rattle.ioa_watch.specs.Streams.{IsFailed, IsWatched}

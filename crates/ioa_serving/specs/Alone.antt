@@ -1,5 +1,5 @@
 -- What a run of a composition writes and tells, whose workers take turns on one thread or have a thread each, and why there is none.
-use Rattle.std.specs.Prelude.{◌≡◌, ◌<◌, ◌≤◌, ◌⊎◌, ℕ, Bool, true, false, List, [], Option, Some, None, Ok, Err, All, length, map, slice_get, take}
+use Rattle.std.specs.Prelude.{◌≡◌, ◌<◌, ◌≤◌, ◌⊎◌, ◌++◌, ℕ, Bool, true, false, List, [], Option, Some, None, Ok, Err, All, length, map, slice_get, take}
 use Rattle.std.specs.Io.KnownBytes.{Appends, Keeps}
 use Rattle.std.specs.Option.{option_copied}
 use Rattle.ioa_value.specs.Actions.{Act, Name}
@@ -7,22 +7,25 @@ use Rattle.ioa_value.specs.Lists as lists
 use Rattle.ioa_value.specs.Lists.{ReadsList}
 use Rattle.ioa_value.specs.Table.{Table}
 use Rattle.ioa_tree.specs.Proposing.{Words}
+use Rattle.ioa_compile.specs.Subjects.{State, Subject, its_components, its_names, its_starts, its_types}
 use Rattle.ioa_system.specs.Histories.{TellsHistory}
 use Rattle.ioa_system.specs.Logs.{Logged}
-use Rattle.ioa_log.specs.declared.failure.LogErr.{LogErr}
+use Rattle.ioa_device.specs.declared.failure.LogErr.{LogErr}
 use Rattle.ioa_log.specs.LogTexts.{log_text}
-use Rattle.ioa_run.specs.declared.report.Report.{Report}
-use Rattle.ioa_run.specs.Alone.{IsFirstOther, IsInput, NoMemory, most_turns}
-use Rattle.ioa_run.specs.Boards as boards
-use Rattle.ioa_run.specs.Histories.{GoesOn, since}
-use Rattle.ioa_run.specs.Hosts.{host_proposers}
-use Rattle.ioa_run.specs.Outcomes.{HaveEnded, ending, logged}
-use Rattle.ioa_run.specs.Proposers.{proposers}
-use Rattle.ioa_run.specs.Reports.{AreTold}
-use Rattle.ioa_run.specs.Resuming.{resumption}
+use Rattle.ioa_board.specs.declared.report.Report.{Report}
+use Rattle.ioa_board.specs.ProgramRooms.{IsInput}
+use Rattle.ioa_run.specs.Alone.{IsFirstOther, NoMemory, most_turns}
+use Rattle.ioa_board.specs.Boards as boards
+use Rattle.ioa_board.specs.Histories.{GoesOn, since}
+use Rattle.ioa_board.specs.Outcomes.{HaveEnded, ending, logged}
+use Rattle.ioa_run.specs.Proposers.{its_proposers}
+use Rattle.ioa_board.specs.Reports.{AreTold}
+use Rattle.ioa_board.specs.Resuming.{resumption}
 use Rattle.ioa_run.specs.Seeds.{words_from}
-use Rattle.ioa_run.specs.Turns.{Proposer, Turns, alone_from}
-use Rattle.ioa_run.specs.declared.run_err.RunErr.{RunErr}
+use Rattle.ioa_run.specs.declared.tally.Tries.{Tries}
+use Rattle.ioa_run.specs.Tallies.{AddUp}
+use Rattle.ioa_run.specs.Turns.{Turns, alone_from}
+use Rattle.ioa_board.specs.declared.run_err.RunErr.{RunErr}
 use Rattle.ioa_serving.specs.declared.failure.Failure.{Failure}
 use Rattle.ioa_request.specs.declared.settings.Settings.{Settings}
 use Rattle.ioa_request.specs.declared.settings.WordsFrom.{WordsFrom}
@@ -34,9 +37,8 @@ use Rattle.ioa_serving.specs.Headline.{IsFileOf}
 use Rattle.ioa_serving.specs.Streams.{AreStreams, key_words}
 use Rattle.ioa_serving.specs.Logs.{log_run_text, performed_in}
 use Rattle.ioa_serving.specs.Resuming.{HasBadText, IsFrom, IsResumable, LacksFile}
-use Rattle.ioa_serving.specs.RunReports.{reports_text, wants_text}
+use Rattle.ioa_serving.specs.RunReports.{inputs_left, its_own_names, left_text, reports_text, tallies_text, wants_text}
 use Rattle.ioa_serving.specs.Statuses.{ending_status}
-use Rattle.ioa_serving.specs.Subjects.{State, Subject, of_hosts, of_table, its_components, its_names, its_starts, its_types}
 use Rattle.ioa_serving.specs.WordLists.{AreWords, IsBadWords, line_words, listed, words_to_come}
 
 -- ---- what a run is
@@ -53,11 +55,6 @@ pub record IsRun (s : Subject) (before : List (ℕ × Act)) (script : List Act) 
   pub goes_on : GoesOn before history
   pub told : AreTold (length (its_names s)) script turns (since before history) failure reports
   pub ended : HaveEnded turns log.ending reports
-
--- what the entries that each component performs propose, in their order
-abbrev pub its_proposers : (s : Subject) → List (List (Proposer (State s)))
-its_proposers (of_hosts h) = host_proposers h
-its_proposers (of_table p) = proposers p
 
 -- turns of all workers on one thread since this board, so many rounds of them: in each round the components in order, each by its own words, and then the
 -- environment
@@ -80,9 +77,12 @@ abbrev pub written : Subject → Bool → Logged → List ℕ
 written s true log = log_text (its_types s) log
 written s false log = log_run_text s log
 
-abbrev pub told_of : Subject → Bool → List Report → Option (List ℕ)
-told_of s true reports = Some (reports_text (its_names s) reports)
-told_of s false reports = None
+-- what is told of it, where its reports are asked for: these, and behind them what became of the turns of each entry, by what is new in the history, and the inputs that
+-- were not performed
+abbrev pub told_of : Subject → Bool → List Report → List (ℕ × Act) → List (List Tries) → List Act → Option (List ℕ)
+told_of s true reports new tallies script =
+    Some (reports_text (its_names s) reports ++ (tallies_text new 0 (its_names s) (its_own_names s) tallies ++ left_text (its_types s) (inputs_left (length (its_names s)) reports script)))
+told_of s false reports new tallies script = None
 
 -- and of whom memory was refused to, which is told of every run
 abbrev pub wants_of_run : Subject → List Report → List ℕ
@@ -142,15 +142,17 @@ pub record CameOf (holds : Name → List ℕ → Type 0) (s : Settings) (x : Sub
   pub run : IsRun x before.entries script s.turns log reports
   pub exact : IsExact holds s x before script log reports
 
--- a run's text is written, and its reports and how often each entry was performed, where they are asked for, and the workers to which memory was refused are left
--- to be told
+-- a run's text is written, and its reports, where they are asked for, with tallies that add up to them, and how often each entry was performed, where that is asked
+-- for, and the workers to which memory was refused are left to be told
 pub record IsRunServed (holds : Name → List ℕ → Type 0) (s : Settings) (before after : Option (List ℕ)) (telling : Option (List ℕ)) (wants : List ℕ) (done : Status) : Type 0 where
   pub subject : Subject
   pub log : Logged
   pub reports : List Report
   pub came : CameOf holds s subject log reports
+  pub tallies : List (List Tries)
+  pub tallied : AddUp (since came.before.entries came.run.history) (its_own_names subject) reports tallies
   pub output : Appends before after (written subject s.log log)
-  pub told : telling ≡ behind (told_of subject s.reports reports) (told_coverage subject s.coverage (performed_in log))
+  pub told : telling ≡ behind (told_of subject s.reports reports (since came.before.entries came.run.history) tallies came.script) (told_coverage subject s.coverage (performed_in log))
   pub wanting : wants ≡ wants_of_run subject reports
   pub status : done ≡ ending_status log.ending
 

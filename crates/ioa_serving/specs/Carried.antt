@@ -8,14 +8,19 @@ use Rattle.ioa_tree.specs.Meaning.{Env}
 use Rattle.ioa_tree.specs.Proposing.{Words}
 use Rattle.ioa_tree.specs.Runs.{Ending}
 use Rattle.ioa_compile.specs.Programs.{Prog}
+use Rattle.ioa_compile.specs.Subjects.{Subject, its_components, its_starts, of_table}
 use Rattle.ioa_compile.specs.Tables.{start_states, tabled}
 use Rattle.ioa_system.specs.Logs.{Logged}
 use Rattle.ioa_picture.specs.Selections.{Selection}
-use Rattle.ioa_run.specs.declared.report.Report.{Report}
-use Rattle.ioa_run.specs.Boards.{IsSound, Standing}
-use Rattle.ioa_run.specs.Hosts.{BoardsLike, Held}
-use Rattle.ioa_run.specs.Resuming.{resumption}
-use Rattle.ioa_run.specs.declared.run_err.RunErr.{RunErr}
+use Rattle.ioa_board.specs.declared.report.Report.{Report}
+use Rattle.ioa_board.specs.Boards.{IsSound, Standing}
+use Rattle.ioa_board.specs.Histories.{since}
+use Rattle.ioa_run.specs.Subjects.{BoardsLike}
+use Rattle.ioa_run.specs.Hosts.{Held}
+use Rattle.ioa_board.specs.Resuming.{resumption}
+use Rattle.ioa_run.specs.declared.tally.Tries.{Tries}
+use Rattle.ioa_run.specs.Tallies.{AddUp}
+use Rattle.ioa_board.specs.declared.run_err.RunErr.{RunErr}
 use Rattle.ioa_serving.specs.Alone.{AreTurnsSince, IsRun, told_of, wants_of_run, written}
 use Rattle.ioa_serving.specs.Compiling.{IsCompiled}
 use Rattle.ioa_serving.specs.Headline.{Declares, IsFileOf, IsMonitoring}
@@ -24,7 +29,7 @@ use Rattle.ioa_serving.specs.LogLogs.{IsLogLog}
 use Rattle.ioa_serving.specs.Objects.{IsLogReplayAs, IsReplayAs}
 use Rattle.ioa_serving.specs.Pictures.{IsGraphed, IsLogChart}
 use Rattle.ioa_serving.specs.Resuming.{IsResumable}
-use Rattle.ioa_serving.specs.Subjects.{Subject, its_components, its_starts, of_table}
+use Rattle.ioa_serving.specs.RunReports.{its_own_names}
 
 -- what a replay of a list by the object writes, as text or as objects, a replay by the source's composition writes
 abbrev pub ReplaysAsSource : Type 0
@@ -74,12 +79,14 @@ HistoriesAsSource = (text object : List ℕ) (name of : Option Name) (p : Prog) 
     → ((b : Standing (List Val)) → IsSound (tabled p) (start_states p) b → (d : Standing (HostState Env)) × IsSound (hosts_of h) (host_starts h) d × BoardsLike (Held h p) d b)
     × ((d : Standing (HostState Env)) → IsSound (hosts_of h) (host_starts h) d → (b : Standing (List Val)) × IsSound (tabled p) (start_states p) b × BoardsLike (Held h p) d b)
 
--- a run of the subject that goes on from the first log has the other and these reports, of which this is written and told
+-- a run of the subject that goes on from the first log has the other and these reports, to which tallies add up, and of which this is written and told
 pub record ComesTo (s : Subject) (first : Logged) (script : List Act) (turns : ℕ) (log : Logged) (reports : List Report) (as_log told : Bool) (before after telling : Option (List ℕ)) (wants : List ℕ) : Type 0 where
   pub resumed : IsResumable s first
   pub run : IsRun s first.entries script turns log reports
+  pub tallies : List (List Tries)
+  pub tallied : AddUp (since first.entries run.history) (its_own_names s) reports tallies
   pub output : Appends before after (written s as_log log)
-  pub tells : telling ≡ told_of s told reports
+  pub tells : telling ≡ told_of s told reports (since first.entries run.history) tallies script
   pub wanting : wants ≡ wants_of_run s reports
 
 -- so of what the file gives

@@ -3,6 +3,7 @@ use Rattle.std.specs.Prelude.{◌≡◌, ◌⊎◌, true, false, List, Option, �
 use Rattle.ioa_value.specs.Actions.{Name}
 use Rattle.ioa_tree.specs.Hosts.{Hosted}
 use Rattle.ioa_compile.specs.Programs.{Prog}
+use Rattle.ioa_compile.specs.Subjects.{Runs, of_hosts}
 use Rattle.ioa_object.specs.Objects.{IsObject}
 use Rattle.ioa_object.specs.Spelling.{mark}
 use Rattle.ioa_serving.specs.declared.failure.Failure.{Failure}
@@ -10,8 +11,6 @@ use Rattle.ioa_serving.specs.Checks.{ok_line}
 use Rattle.ioa_serving.specs.Devices.{Change, Failed, Files, Untouched, Wrote}
 use Rattle.ioa_serving.specs.Failing.{IsDeviceErr, IsRefusedSource}
 use Rattle.ioa_serving.specs.Headline.{IsFileOf, begins_object}
-use Rattle.ioa_serving.specs.Running.{Runs}
-use Rattle.ioa_serving.specs.Subjects.{of_hosts}
 
 -- the source declares of_hosts, and the bytes are the object of a program of theirs
 abbrev pub IsCompiled : List ℕ → Option Name → List ℕ → Type 0

@@ -1,25 +1,37 @@
 -- How often entries are performed in replays and runs, as it is told.
-use Rattle.std.specs.Prelude.{◌≡◌, ◌++◌, ℕ, Bool, true, false, List, Option, Some, None, take}
+use Rattle.std.specs.Prelude.{◌≡◌, ◌++◌, ℕ, Bool, true, false, List, Option, Some, None, count_by, map, take}
 use Rattle.std.specs.Io.KnownBytes.{Appends}
+use Rattle.std.specs.List.{flat_map}
 use Rattle.ioa_value.specs.Actions.{Act, Name}
 use Rattle.ioa_value.specs.Lists.{ReadsList}
 use Rattle.ioa_value.specs.Lists as lists
+use Rattle.ioa_tree.specs.Compositions.{Composed, Member}
+use Rattle.ioa_tree.specs.Instances.{entry_has}
 use Rattle.ioa_tree.specs.Runs.{Ending, run}
+use Rattle.ioa_tree.specs.Tree.{EntryTree}
 use Rattle.ioa_compile.specs.Programs.{Prog}
+use Rattle.ioa_compile.specs.Subjects.{Subject, its_components, its_starts, its_types, of_composition, of_hosts, of_table}
 use Rattle.ioa_system.specs.Logs.{Logged, actions_of}
-use Rattle.ioa_coverage.specs.Performed.{counted_in, counted_table, coverage_text}
-use Rattle.ioa_log.specs.declared.failure.LogErr.{LogErr}
-use Rattle.ioa_log.specs.Replays.{run_text}
+use Rattle.ioa_coverage.specs.Performed.{Counted, counted_in, counted_table, coverage_text, how_often}
+use Rattle.ioa_device.specs.declared.failure.LogErr.{LogErr}
+use Rattle.ioa_log.specs.Replays.{its_text}
 use Rattle.ioa_serving.specs.declared.failure.Failure.{Failure}
 use Rattle.ioa_serving.specs.Failing.{IsFailure, IsLogReplayFailure, IsNoLogOf}
 use Rattle.ioa_serving.specs.Headline.{IsFileOf}
 use Rattle.ioa_serving.specs.Logs.{IsRunLog, log_run_text, performed_in}
 use Rattle.ioa_serving.specs.Objects.{BeginsLogReplayAs, BeginsReplayAs, rendered}
-use Rattle.ioa_serving.specs.Subjects.{Subject, of_hosts, of_table, its_components, its_hidden, its_starts, its_types}
+
+-- how often each entry of the composition's components is performed: as often as an action of it stands among these
+abbrev pub of_member_entry : List Act → Member → EntryTree → Counted
+of_member_entry acts m e = how_often m.name e.name (count_by (λ a. entry_has m.instance a e) acts)
+
+abbrev pub counted_of : Composed → List Act → List Counted
+counted_of c acts = flat_map (λ m. map (of_member_entry acts m) m.instance.automaton.entries) c.members
 
 -- what is told of the subject's entries where these actions were performed
 abbrev pub covered_text : Subject → List Act → List ℕ
 covered_text (of_hosts h) acts = coverage_text (counted_in h acts)
+covered_text (of_composition c) acts = coverage_text (counted_of c acts)
 covered_text (of_table p) acts = coverage_text (counted_table p acts)
 
 -- ---- replays
@@ -32,7 +44,7 @@ performed_of s acts = take (run (its_components s) acts (its_starts s)).performe
 abbrev pub CoversList : Subject → List ℕ → Ending → List ℕ → List ℕ → Type 0
 CoversList s bytes end text told =
     (acts : List Act) × ReadsList (its_types s) bytes acts × (end ≡ (run (its_components s) acts (its_starts s)).ending)
-    × (text ≡ run_text (its_types s) (its_hidden s) (its_components s) (its_starts s) acts) × (told ≡ covered_text s (performed_of s acts))
+    × (text ≡ its_text s acts) × (told ≡ covered_text s (performed_of s acts))
 
 -- the same of a log of the run that the subject does, by what the log tells to be performed
 abbrev pub CoversLog : Subject → List ℕ → Ending → List ℕ → List ℕ → Type 0

@@ -4,15 +4,14 @@ use Rattle.ioa_value.specs.Actions.{Name}
 use Rattle.ioa_value.specs.Plain.{Val}
 use Rattle.ioa_tree.specs.Hosts.{Hosted}
 use Rattle.ioa_compile.specs.Programs.{Prog}
+use Rattle.ioa_compile.specs.Subjects.{Runs, of_table}
 use Rattle.ioa_compile.specs.Tables.{start_states, tabled}
 use Rattle.ioa_links.specs.Delivery.{Begins, delivered, sent}
 use Rattle.ioa_links.specs.Trees.{stenning_source}
-use Rattle.ioa_run.specs.Boards.{IsSound, Standing}
-use Rattle.ioa_run.specs.Histories.{acts_of}
+use Rattle.ioa_board.specs.Boards.{IsSound, Standing}
+use Rattle.ioa_board.specs.Histories.{acts_of}
 use Rattle.ioa_serving.specs.Compiling.{IsCompiled}
 use Rattle.ioa_serving.specs.Headline.{Declares, IsFileOf, Spells}
-use Rattle.ioa_serving.specs.Running.{Runs}
-use Rattle.ioa_serving.specs.Subjects.{of_table}
 
 -- the name of its composition
 abbrev pub protocol_name : Name

@@ -2,7 +2,7 @@
 -- are known, and how many of its calls failed so far.
 use Rattle.std.specs.Prelude.{◌≡◌, ℕ, List, Option, None}
 use Rattle.std.specs.Io.KnownBytes.{Appends, Keeps}
-use Rattle.ioa_log.specs.Failing.{HasFailed}
+use Rattle.ioa_device.specs.Failing.{HasFailed}
 use Rattle.ioa_value.specs.Actions.{Name}
 use Rattle.ioa_serving.specs.Placing.{Blocks, Places, Yields}
 

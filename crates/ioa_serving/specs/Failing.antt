@@ -13,10 +13,12 @@ use Rattle.ioa_tree.specs.Hosts.{Hosted}
 use Rattle.ioa_rules.specs.Reasons.{in_source}
 use Rattle.ioa_compose.specs.Refusals as compositions
 use Rattle.ioa_compile.specs.Programs.{Prog}
+use Rattle.ioa_compile.specs.Subjects.{Subject, its_components, its_starts, its_types, of_hosts}
 use Rattle.ioa_object.specs.Objects.{IsObject}
 use Rattle.ioa_object.specs.Refusals as objects
-use Rattle.ioa_object.specs.declared.failure.ObjErr.{ObjErr}
-use Rattle.ioa_log.specs.declared.failure.LogErr.{LogErr}
+use Rattle.ioa_bytes.specs.declared.failure.ObjErr.{ObjErr}
+use Rattle.ioa_device.specs.declared.failure.LogErr.{LogErr}
+use Rattle.ioa_monitor.specs.Monitoring.{IsClosed, IsOpen}
 use Rattle.ioa_log.specs.Judging.{judged}
 use Rattle.ioa_log.specs.LogTexts.{NotJsonAt, NoEntryAt, GoesOnAt, HasNoEnd}
 use Rattle.ioa_log.specs.Reasons.{TellsWhy}
@@ -26,7 +28,6 @@ use Rattle.ioa_serving.specs.Headline.{Spells, IsFileOf, begins_object}
 use Rattle.ioa_serving.specs.Logs.{BeginsLog, BeginsFound, BeginsMonitor}
 use Rattle.ioa_request.specs.declared.shown.Shown.{Shown}
 use Rattle.ioa_serving.specs.States.{BeginsLogStates, BeginsStates}
-use Rattle.ioa_serving.specs.Subjects.{Subject, of_hosts, IsOpen, IsClosed, its_types, its_hidden, its_components, its_starts}
 
 -- a device failed; no list and no log is read
 abbrev pub IsDeviceErr : Type 0 → LogErr → Type 0
@@ -182,7 +183,7 @@ IsMonitorFailure text name bytes failed Failure.OutOfMemory = Unit {0}
 -- what is written begins what a replay of the list, a replay of the log, without and with its invariants, or a monitor of it writes
 abbrev pub BeginsReplayOf : List ℕ → Option Name → Option (List ℕ) → Option (List ℕ) → Option (List ℕ) → Type 0
 BeginsReplayOf text name bytes before after =
-    Given text name bytes (λ s xs. BeginsReplay (its_types s) (its_hidden s) (its_components s) (its_starts s) xs before after)
+    Given text name bytes (λ s xs. BeginsReplay s xs before after)
 
 abbrev pub BeginsLogOf : List ℕ → Option Name → Option (List ℕ) → Option (List ℕ) → Option (List ℕ) → Type 0
 BeginsLogOf text name bytes before after = Given text name bytes (λ s xs. BeginsLog s xs before after)

@@ -1,7 +1,7 @@
 -- Which code stands for what was not done.
 use Rattle.ioa_lex.specs.declared.refusal.Refusal.{Refusal}
-use Rattle.ioa_log.specs.declared.failure.LogErr.{LogErr}
-use Rattle.ioa_object.specs.declared.failure.ObjErr.{ObjErr}
+use Rattle.ioa_device.specs.declared.failure.LogErr.{LogErr}
+use Rattle.ioa_bytes.specs.declared.failure.ObjErr.{ObjErr}
 use Rattle.ioa_request.specs.declared.code.Code.{Code}
 use Rattle.ioa_serving.specs.declared.failure.Failure.{Failure}
 

@@ -12,12 +12,12 @@ use Rattle.ioa_tree.specs.Compositions.{picked}
 use Rattle.ioa_tree.specs.Hosts.{Hosted, IsHosted}
 use Rattle.ioa_tree.specs.Runs.{Ending}
 use Rattle.ioa_compile.specs.Programs.{Prog}
+use Rattle.ioa_compile.specs.Subjects.{Subject, of_composition, of_hosts, of_table}
 use Rattle.ioa_object.specs.Objects.{IsObject}
 use Rattle.ioa_log.specs.Replays.{Replays}
 use Rattle.ioa_request.specs.declared.shown.Shown.{Shown}
 use Rattle.ioa_serving.specs.Logs.{ReplaysLog, FindsInLog, Found, Monitors}
 use Rattle.ioa_serving.specs.States.{ReplaysLogStates, ReplaysStates}
-use Rattle.ioa_serving.specs.Subjects.{Subject, of_hosts, of_table, its_types, its_hidden, its_components, its_starts}
 
 -- the text's tokens spell the tree
 abbrev pub Spells : List ℕ → SourceTree → Type 0
@@ -46,13 +46,14 @@ begins_object (b ∷ bytes) = b == 127
 -- what a file gives: the hosts that it declares as a source, or the program that it is an object of
 abbrev pub IsFileOf : List ℕ → Option Name → Subject → Type 0
 IsFileOf text name (of_hosts h) = (begins_object text ≡ false) × Declares text name h
+IsFileOf text name (of_composition c) = ⊥
 IsFileOf text name (of_table p) = IsObjectOf text name p
 
 -- The bytes are a list of actions, and what is written are the external ones among those that the hosts or the program perform, up to
 -- the first that they cannot, and then the end: why it is the first, and its index.
 abbrev pub IsReplay : List ℕ → Option Name → List ℕ → Ending → Option (List ℕ) → Option (List ℕ) → Type 0
 IsReplay text name bytes ending before after =
-    (s : Subject) × IsFileOf text name s × Replays (its_types s) (its_hidden s) (its_components s) (its_starts s) bytes ending before after
+    (s : Subject) × IsFileOf text name s × Replays s bytes ending before after
 
 -- The bytes are a log of the run that they do, and what is written is the same as for the list of its actions.
 abbrev pub IsLogReplay : List ℕ → Option Name → List ℕ → Ending → Option (List ℕ) → Option (List ℕ) → Type 0

@@ -30,7 +30,6 @@ pub mod Printed
 pub mod Resuming
 pub mod Rows
 pub mod RunReports
-pub mod Running
 pub mod SeedRuns
 pub mod Seeds
 pub mod Serving
@@ -38,7 +37,6 @@ pub mod States
 pub mod Statuses
 pub mod Streams
 pub mod Strict
-pub mod Subjects
 pub mod Traces
 pub mod Watching
 pub mod WordLists

@@ -6,18 +6,18 @@ use Rattle.std.specs.Option.{option_map_or}
 use Rattle.ioa_tree.specs.Hosts.{Hosted, hosts_of, host_starts, first_broken_host}
 use Rattle.ioa_tree.specs.Invariants.{Broken}
 use Rattle.ioa_tree.specs.Runs.{Ending, run}
+use Rattle.ioa_compile.specs.Subjects.{Subject, its_components, its_hidden, its_starts, its_types, of_hosts}
 use Rattle.ioa_system.specs.Outcomes.{ending_of}
 use Rattle.ioa_system.specs.Endings.{ending_text}
 use Rattle.ioa_system.specs.Logs.{Logged, actions_of}
-use Rattle.ioa_log.specs.Breaking.{broken_of}
+use Rattle.ioa_monitor.specs.Monitoring.{IsOpen, monitored}
 use Rattle.ioa_log.specs.Judging.{agrees, judged}
-pub use Rattle.ioa_log.specs.LogMonitors.{performed_in}
 use Rattle.ioa_log.specs.LogTexts.{ReadsLog}
-use Rattle.ioa_log.specs.Monitoring.{monitored}
 use Rattle.ioa_log.specs.Replays.{run_text}
+use Rattle.ioa_inspect.specs.Breaking.{broken_of}
+pub use Rattle.ioa_inspect.specs.LogMonitors.{performed_in}
 use Rattle.ioa_serving.specs.declared.invariant_replay.Finding.{Finding}
 use Rattle.ioa_serving.specs.Json.{answer_json, verdict_line}
-use Rattle.ioa_serving.specs.Subjects.{Subject, of_hosts, IsOpen, its_types, its_hidden, its_components, its_starts}
 
 -- the bytes are a text of this log, and it is of the run that the subject does
 abbrev pub IsRunLog : Subject → List ℕ → Logged → Type 0

@@ -9,6 +9,7 @@ use Rattle.ioa_value.specs.Table.{AreTypes, Table}
 use Rattle.ioa_value.specs.Written.{written_action}
 use Rattle.ioa_tree.specs.Hosts.{Hosted}
 use Rattle.ioa_tree.specs.Runs.{Ending, run}
+use Rattle.ioa_compile.specs.Subjects.{Subject, its_components, its_hidden, its_starts, its_types, of_hosts}
 use Rattle.ioa_system.specs.Logs.{Logged, actions_of}
 use Rattle.ioa_system.specs.Outcomes.{ending_of}
 use Rattle.ioa_log.specs.Replays.{replay_text, run_text}
@@ -19,7 +20,6 @@ use Rattle.ioa_serving.specs.Failing.{Given}
 use Rattle.ioa_serving.specs.Headline.{IsFileOf}
 use Rattle.ioa_serving.specs.Json.{broken_json, verdict_line}
 use Rattle.ioa_serving.specs.Logs.{Found, IsRunLog, broken, found_in, found_text, unbroken}
-use Rattle.ioa_serving.specs.Subjects.{Subject, its_components, its_hidden, its_starts, its_types, of_hosts}
 
 -- ---- a text in either form
 

@@ -6,6 +6,7 @@ use Rattle.std.specs.String.{string_bytes}
 use Rattle.ioa_value.specs.Actions.{Name}
 use Rattle.ioa_tree.specs.Runs.{Ending, run}
 use Rattle.ioa_compile.specs.Programs.{Prog}
+use Rattle.ioa_compile.specs.Subjects.{RunsAs, Subject, its_components, its_names, its_starts, its_types}
 use Rattle.ioa_system.specs.Logs.{Logged, actions_of}
 use Rattle.ioa_system.specs.Outcomes.{ending_of}
 use Rattle.ioa_picture.specs.Charts.{chart}
@@ -18,8 +19,6 @@ use Rattle.ioa_serving.specs.declared.log_chart.Drawn.{Drawn}
 use Rattle.ioa_serving.specs.Failing.{Given, IsDeviceErr, IsNoObject, IsRefusedFile}
 use Rattle.ioa_serving.specs.Headline.{IsFileOf}
 use Rattle.ioa_serving.specs.Logs.{IsRunLog}
-use Rattle.ioa_serving.specs.Running.{RunsAs}
-use Rattle.ioa_serving.specs.Subjects.{Subject, its_components, its_names, its_starts, its_types}
 
 -- the entries that are asked for
 abbrev pub selected : Asked → Selection

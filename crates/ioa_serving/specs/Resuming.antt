@@ -2,13 +2,14 @@
 use Rattle.std.specs.Prelude.{◌≡◌, ℕ, List, Option, Some, None, Ok}
 use Rattle.ioa_value.specs.Actions.{Name}
 use Rattle.ioa_value.specs.Table.{Table}
+use Rattle.ioa_compile.specs.Subjects.{State, Subject, its_components, its_starts}
 use Rattle.ioa_system.specs.Logs.{Logged}
-use Rattle.ioa_log.specs.declared.failure.LogErr.{LogErr}
+use Rattle.ioa_device.specs.declared.failure.LogErr.{LogErr}
 use Rattle.ioa_log.specs.LogTexts.{GoesOnAt, HasNoEnd, NoEntryAt, NotJsonAt, ReadsLog}
-use Rattle.ioa_run.specs.Boards.{Standing}
-use Rattle.ioa_run.specs.Resuming.{no_log, resumption}
+use Rattle.ioa_board.specs.Boards.{Standing}
+use Rattle.ioa_board.specs.Resuming.{resumption}
+use Rattle.ioa_run.specs.Resuming.{no_log}
 use Rattle.ioa_serving.specs.declared.failure.Failure.{Failure}
-use Rattle.ioa_serving.specs.Subjects.{State, Subject, its_components, its_starts}
 
 -- the log is that of a text that the file may hold; without a file it is that of nothing
 abbrev pub IsFrom : (Name → List ℕ → Type 0) → Table → Option Name → Logged → Type 0

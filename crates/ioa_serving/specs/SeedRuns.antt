@@ -12,17 +12,18 @@ use Rattle.ioa_compose.specs.declared.composition.Composition.{Composition}
 use Rattle.ioa_compose.specs.Held.{composed_of}
 use Rattle.ioa_compose.specs.Simulates.{Simulates}
 use Rattle.ioa_compile.specs.Programs.{Prog}
+use Rattle.ioa_compile.specs.Subjects.{Runs, Subject, of_composition, of_hosts, of_table}
 use Rattle.ioa_compile.specs.Tables.{start_states, tabled}
 use Rattle.ioa_coverage.specs.declared.coverage.Coverage.{Coverage}
 use Rattle.ioa_coverage.specs.Counts.{CountsAll}
 use Rattle.ioa_system.specs.Logs.{Logged, actions_of, log_end, log_entry, logged}
 use Rattle.ioa_system.specs.Outcomes.{ending_of}
-use Rattle.ioa_log.specs.Breaking.{broken_of}
-use Rattle.ioa_log.specs.Monitoring.{IsSeen, hides, monitored}
-use Rattle.ioa_run.specs.declared.outcome.Outcome.{Outcome}
-use Rattle.ioa_run.specs.declared.run_err.RunErr.{RunErr}
+use Rattle.ioa_monitor.specs.Monitoring.{IsSeen, hides, monitored}
+use Rattle.ioa_inspect.specs.Breaking.{broken_of}
+use Rattle.ioa_board.specs.declared.outcome.Outcome.{Outcome}
+use Rattle.ioa_board.specs.declared.run_err.RunErr.{RunErr}
 use Rattle.ioa_run.specs.Alone.{IsAloneSince, IsOutcomeFrom, NoMemory, RefusesResumed}
-use Rattle.ioa_run.specs.Outcomes.{HaveEnded}
+use Rattle.ioa_board.specs.Outcomes.{HaveEnded}
 use Rattle.ioa_run.specs.Seeds.{words_from}
 use Rattle.ioa_request.specs.Keys.{numbered_key}
 use Rattle.ioa_request.specs.declared.seeds.Seeds.{Seeds}
@@ -34,11 +35,9 @@ use Rattle.ioa_serving.specs.declared.sown.Sown.{Sown}
 use Rattle.ioa_serving.specs.HasRun.{HasReady}
 use Rattle.ioa_serving.specs.Headline.{IsFileOf}
 use Rattle.ioa_serving.specs.Logs.{performed_in}
-use Rattle.ioa_serving.specs.Running.{Runs}
 use Rattle.ioa_serving.specs.Seeds.{IsSeedsCut, IsShortest, Judged, broken_among, dones_among, faults_among, monitors_of, performed_by_all, refusals_among, seeds_count}
 use Rattle.ioa_serving.specs.Serving.{run_failure}
 use Rattle.ioa_serving.specs.Streams.{AreStreams}
-use Rattle.ioa_serving.specs.Subjects.{Subject, of_hosts, of_table}
 
 -- ---- what is read
 
@@ -51,6 +50,7 @@ abbrev pub StandsFor : Bool → Subject → Option Composition → Type 0
 StandsFor false x c = c ≡ None
 StandsFor true (of_hosts h) (Some c) = Simulates h (composed_of c)
 StandsFor true (of_hosts h) None = ⊥
+StandsFor true (of_composition d) c = ⊥
 StandsFor true (of_table p) c = ⊥
 
 -- all was read, of a file that may hold this text, which has the specifications

@@ -10,12 +10,13 @@ use Rattle.ioa_value.specs.Table.{Table}
 use Rattle.ioa_tree.specs.Hosts.{Hosted, first_broken_host}
 use Rattle.ioa_tree.specs.Invariants.{Broken}
 use Rattle.ioa_tree.specs.Runs.{Ending}
+use Rattle.ioa_compile.specs.Subjects.{Subject, its_types, of_composition, of_hosts, of_table}
 use Rattle.ioa_system.specs.Endings.{ending_text}
 use Rattle.ioa_system.specs.Logs.{Logged, actions_of, is_fault}
-use Rattle.ioa_log.specs.declared.failure.LogErr.{LogErr}
+use Rattle.ioa_device.specs.declared.failure.LogErr.{LogErr}
+use Rattle.ioa_monitor.specs.Monitoring.{IsSeen}
 use Rattle.ioa_log.specs.LogTexts.{log_text}
-use Rattle.ioa_log.specs.Monitoring.{IsSeen}
-use Rattle.ioa_run.specs.declared.report.Report.{Report}
+use Rattle.ioa_board.specs.declared.report.Report.{Report}
 use Rattle.ioa_run.specs.Alone.{NoMemory}
 use Rattle.ioa_watch.specs.Json.{ending_json}
 use Rattle.ioa_request.specs.Keys.{numbered_digits, numbered_key}
@@ -32,7 +33,6 @@ use Rattle.ioa_serving.specs.Headline.{IsFileOf}
 use Rattle.ioa_serving.specs.Json.{answer_json, broken_json}
 use Rattle.ioa_serving.specs.Logs.{answer_text, answer_to, broken_words, performed_in}
 use Rattle.ioa_serving.specs.Placing.{log_mark}
-use Rattle.ioa_serving.specs.Subjects.{Subject, its_types, of_hosts, of_table}
 use Rattle.ioa_serving.specs.Watching.{IsUnwatched}
 
 -- ---- what is written
@@ -183,6 +183,7 @@ IsAnswerOf text log name answer = (h : Hosted) × IsFileOf text (Some name) (of_
 abbrev pub IsInspected : Bool → Subject → Logged → Option (Option Broken) → Type 0
 IsInspected false x log inspected = inspected ≡ None
 IsInspected true (of_hosts h) log inspected = inspected ≡ Some (first_broken_host h (actions_of log))
+IsInspected true (of_composition c) log inspected = ⊥
 IsInspected true (of_table p) log inspected = ⊥
 
 -- that log is of the single run with this seed, memory was refused to none of its workers, the answers are those of these specifications, and so it is with

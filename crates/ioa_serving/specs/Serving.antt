@@ -4,7 +4,7 @@ use Rattle.std.specs.Option.{option_copied, option_map}
 use Rattle.std.specs.String.{string_bytes}
 use Rattle.ioa_tree.specs.Runs.{Ending}
 use Rattle.ioa_links.specs.Library.{library_text}
-use Rattle.ioa_run.specs.declared.run_err.RunErr.{RunErr}
+use Rattle.ioa_board.specs.declared.run_err.RunErr.{RunErr}
 use Rattle.ioa_serving.specs.declared.failure.Failure.{Failure}
 use Rattle.ioa_request.specs.declared.request.Request.{Request}
 use Rattle.ioa_request.specs.Pasted.{texts}

@@ -7,13 +7,13 @@ use Rattle.ioa_value.specs.Lists.{ReadsList}
 use Rattle.ioa_tree.specs.Hosts.{HostState, Hosted, hosts_of, host_starts}
 use Rattle.ioa_tree.specs.Meaning.{Env}
 use Rattle.ioa_tree.specs.Runs.{Ending, run}
+use Rattle.ioa_compile.specs.Subjects.{of_hosts}
 use Rattle.ioa_system.specs.Logs.{Logged, actions_of}
 use Rattle.ioa_log.specs.Replays.{run_text}
 use Rattle.ioa_request.specs.declared.shown.Shown.{Shown}
 use Rattle.ioa_account.specs.States.{state_lines}
 use Rattle.ioa_enabled.specs.Told.{enabled_lines}
 use Rattle.ioa_serving.specs.Logs.{IsRunLog}
-use Rattle.ioa_serving.specs.Subjects.{of_hosts}
 
 -- what is told of the hosts' states: each variable, what is enabled, or both
 abbrev pub shown_lines : Hosted → Shown → List (HostState Env) → List ℕ

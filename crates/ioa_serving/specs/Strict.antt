@@ -9,12 +9,13 @@ use Rattle.ioa_value.specs.Table.{contains}
 use Rattle.ioa_tree.specs.Components.{Component}
 use Rattle.ioa_tree.specs.Runs.{Ending, done, not_an_action_at, not_enabled_at, fault_at}
 use Rattle.ioa_compile.specs.Programs.{Prog}
+use Rattle.ioa_compile.specs.Subjects.{RunsAs, Subject, its_components, its_starts, its_types}
 use Rattle.ioa_compile.specs.Tables.{start_states, tabled}
 use Rattle.ioa_system.specs.Endings.{ending_text}
 use Rattle.ioa_system.specs.Logs.{Logged}
 use Rattle.ioa_system.specs.Outcomes.{ending_of}
+use Rattle.ioa_monitor.specs.Monitoring.{IsOpen, monitored}
 use Rattle.ioa_log.specs.LogTexts.{ReadsLog}
-use Rattle.ioa_log.specs.Monitoring.{monitored}
 use Rattle.ioa_watch.specs.AsMonitors.{AreItsOwn}
 use Rattle.ioa_watch.specs.Names.{names_of}
 use Rattle.ioa_watch.specs.Watched.{watched}
@@ -24,8 +25,6 @@ use Rattle.ioa_serving.specs.Failing.{Given}
 use Rattle.ioa_serving.specs.Headline.{IsFileOf}
 use Rattle.ioa_serving.specs.Json.{answer_json, verdict_line}
 use Rattle.ioa_serving.specs.Logs.{performed_in}
-use Rattle.ioa_serving.specs.Running.{RunsAs}
-use Rattle.ioa_serving.specs.Subjects.{Subject, IsOpen, its_types, its_components, its_starts}
 
 -- ---- the answer
 

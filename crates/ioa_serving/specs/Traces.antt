@@ -1,15 +1,16 @@
 -- The texts of a run, by its program and its log.
-use Rattle.std.specs.Prelude.{ℕ, Bool, true, false, List, map, Option, Some, None}
+use Rattle.std.specs.Prelude.{ℕ, ◌++◌, Bool, true, false, List, drop, length, map, take, Option, Some, None}
+use Rattle.ioa_value.specs.Actions.{Act, act_of}
 use Rattle.ioa_tree.specs.Runs.{trace}
 use Rattle.ioa_compile.specs.Programs.{Prog}
 use Rattle.ioa_compile.specs.Tables.{tabled}
 use Rattle.ioa_system.specs.declared.log.LogEnd.{LogEnd}
-use Rattle.ioa_system.specs.Logs.{Logged, actions_of, logged}
+use Rattle.ioa_system.specs.Logs.{Logged, actions_of, log_entry, logged}
 use Rattle.ioa_log.specs.LogTexts.{log_text}
 use Rattle.ioa_log.specs.Replays.{replay_text}
-use Rattle.ioa_run.specs.declared.report.Report.{Report}
+use Rattle.ioa_run.specs.Tallies.{own_names, tally_of}
 use Rattle.ioa_serving.specs.declared.run.Ran.{Ran}
-use Rattle.ioa_serving.specs.RunReports.{reports_text}
+use Rattle.ioa_serving.specs.RunReports.{inputs_left, left_text, reports_text, tallies_text}
 
 -- how many actions of a log that ends so are performed
 abbrev pub performed : LogEnd → ℕ
@@ -29,7 +30,18 @@ table_text p false log n = traced_text p log n
 abbrev pub ran_text : Bool → Ran → List ℕ
 ran_text as_log r = table_text r.program as_log (logged r.log) (performed r.log.end)
 
--- the reports by the names of the program's components, where they are to be told
-abbrev pub table_reports : Prog → Bool → List Report → Option (List ℕ)
-table_reports p true reports = Some (reports_text (map (λ m. m.name) p.members) reports)
-table_reports p false reports = None
+-- what is new in its history: what is performed, behind so many entries from which it went on
+abbrev pub new_in : Ran → List (ℕ × Act)
+new_in r = drop r.before (take (performed r.log.end) (map log_entry r.log.entries.items))
+
+-- the reports by the names of the program's components, the tallies by those of their own entries too, and the inputs that are left
+abbrev pub told_text : Ran → List ℕ
+told_text r =
+    let names = map (λ m. m.name) r.program.members in
+    reports_text names r.reports.items
+    ++ (tallies_text (new_in r) 0 names (map own_names r.program.members) (map tally_of r.tallies.items) ++ left_text r.program.types (inputs_left (length names) r.reports.items (map act_of r.script.items)))
+
+-- so where they are to be told
+abbrev pub table_told : Bool → Ran → Option (List ℕ)
+table_told true r = Some (told_text r)
+table_told false r = None

@@ -13,9 +13,10 @@ use Rattle.ioa_tree.specs.Hosts.{Hosted, IsHosted, host_starts, hosts_of}
 use Rattle.ioa_tree.specs.Types.{types_of}
 use Rattle.ioa_tree.specs.WellFormed.{WellFormed}
 use Rattle.ioa_compile.specs.Programs.{Prog}
-use Rattle.ioa_log.specs.declared.failure.LogErr.{LogErr}
-use Rattle.ioa_log.specs.Failing.{IsLineErr}
-use Rattle.ioa_log.specs.Monitoring.{IsHiding, IsSeen}
+use Rattle.ioa_compile.specs.Subjects.{Runs}
+use Rattle.ioa_device.specs.declared.failure.LogErr.{LogErr}
+use Rattle.ioa_device.specs.Failing.{IsLineErr}
+use Rattle.ioa_monitor.specs.Monitoring.{IsHiding, IsSeen}
 use Rattle.ioa_watch.specs.Names.{names_of}
 use Rattle.ioa_watch.specs.Streams.{IsFailed, IsWatched}
 use Rattle.ioa_watch.specs.Watched.{watched}
@@ -25,7 +26,6 @@ use Rattle.ioa_serving.specs.declared.status.Status.{Status}
 use Rattle.ioa_serving.specs.Counting.{MayTell, counted_text}
 use Rattle.ioa_serving.specs.Failing.{IsIllFormed, IsRefusedNamed}
 use Rattle.ioa_serving.specs.Headline.{Spells, begins_object}
-use Rattle.ioa_serving.specs.Running.{Runs}
 use Rattle.ioa_serving.specs.Statuses.{watch_status}
 
 -- ---- specifications

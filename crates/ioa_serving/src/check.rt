@@ -1,8 +1,8 @@
 //! `check`: whether a source keeps the rules, or the code of an object is valid.
 
 ghost use Rattle.std.specs.Prelude.{◌≡◌, ◌∷◌, [], All, List, Some, OnOk, IfErr, IsErrOf};
-ghost use Rattle.ioa_log.specs.declared.failure.LogErr.{LogErr};
-ghost use Rattle.ioa_log.specs.Failing.{FailedOnceAtMost, HasFailed};
+ghost use Rattle.ioa_device.specs.declared.failure.LogErr.{LogErr};
+ghost use Rattle.ioa_device.specs.Failing.{FailedOnceAtMost, HasFailed};
 ghost use Rattle.ioa_tree.specs.Compositions.{compositions};
 ghost use Rattle.ioa_tree.specs.Tree.{CompositionTree};
 ghost use Rattle.ioa_tree.specs.View.{declaration_of, tree_of};
@@ -13,7 +13,7 @@ use crate::compile::is_object;
 use crate::failure::Failure;
 use ioa_check::{Checked, check};
 use ioa_compose::compose;
-use ioa_log::{OutputDevice, send_all};
+use ioa_device::{OutputDevice, send_all};
 use ioa_object::read_object;
 use ioa_syntax::{Refusal, parse};
 use ioa_tree::Declaration;

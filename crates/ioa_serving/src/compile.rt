@@ -6,11 +6,10 @@ ghost use Rattle.std.specs.Str.{bytes_eq};
 ghost use Rattle.ioa_tree.specs.Hosts.{Hosted};
 ghost use Rattle.ioa_compose.specs.Held.{composed_of};
 ghost use Rattle.ioa_compose.specs.Simulates.{Simulates};
+ghost use Rattle.ioa_compile.specs.Subjects.{Runs, RunsAs, Subject};
 ghost use Rattle.ioa_serving.specs.Compiling.{IsCompiled, IsUncompiled};
 ghost use Rattle.ioa_serving.specs.Failing.{IsRefusedGiven, IsRefusedSource};
 ghost use Rattle.ioa_serving.specs.Headline.{Declares, IsFileOf, IsObjectOf, begins_object};
-ghost use Rattle.ioa_serving.specs.Running.{Runs, RunsAs};
-ghost use Rattle.ioa_serving.specs.Subjects.{Subject};
 
 use crate::failure::Failure;
 use ioa_check::check;

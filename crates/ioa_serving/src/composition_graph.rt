@@ -2,13 +2,13 @@
 
 ghost use Rattle.std.specs.Prelude.{◌≡◌, IfErr, IsErrOf, OnOk};
 ghost use Rattle.std.specs.Option.{option_copied};
-ghost use Rattle.ioa_log.specs.declared.failure.LogErr.{LogErr};
-ghost use Rattle.ioa_log.specs.Failing.{FailedOnceAtMost, HasFailed};
+ghost use Rattle.ioa_device.specs.declared.failure.LogErr.{LogErr};
+ghost use Rattle.ioa_device.specs.Failing.{FailedOnceAtMost, HasFailed};
 ghost use Rattle.ioa_serving.specs.Pictures.{IsGraphed, IsUngraphed};
 
 use crate::compile::program_of;
 use crate::failure::Failure;
-use ioa_log::{OutputDevice, send_all};
+use ioa_device::{OutputDevice, send_all};
 use ioa_picture::graph;
 use std::alloc::Global;
 

@@ -5,19 +5,18 @@ ghost use Rattle.std.specs.Option.{option_copied};
 ghost use Rattle.std.specs.String.{string_bytes};
 ghost use Rattle.ioa_value.specs.Actions.{Act, act_of};
 ghost use Rattle.ioa_value.specs.Lists.{ReadsList};
+ghost use Rattle.ioa_compile.specs.Subjects.{RunsAs, Subject};
 ghost use Rattle.ioa_system.specs.Logs.{logged};
 ghost use Rattle.ioa_system.specs.Outcomes as outcomes;
 ghost use Rattle.ioa_system.specs.Outcomes.{ending_of};
 ghost use Rattle.ioa_coverage.specs.Counts.{entered};
-ghost use Rattle.ioa_log.specs.declared.failure.LogErr.{LogErr};
-ghost use Rattle.ioa_log.specs.Failing.{FailedOnceAtMost, HasFailed};
+ghost use Rattle.ioa_device.specs.declared.failure.LogErr.{LogErr};
+ghost use Rattle.ioa_device.specs.Failing.{FailedOnceAtMost, HasFailed};
 ghost use Rattle.ioa_log.specs.LogTexts.{ReadsLog};
 ghost use Rattle.ioa_serving.specs.Coverage.{BeginsCoverageOf, CoversRun, IsCoverage, IsCoverageFailure, IsUncovered};
 ghost use Rattle.ioa_serving.specs.Failing.{IsUnwritten};
 ghost use Rattle.ioa_serving.specs.Logs.{performed_in};
 ghost use Rattle.ioa_serving.specs.Objects as objects;
-ghost use Rattle.ioa_serving.specs.Running.{RunsAs};
-ghost use Rattle.ioa_serving.specs.Subjects.{Subject};
 
 use crate::at_hand::AtHand;
 use crate::compile::program_of;
@@ -25,10 +24,8 @@ use crate::failure::Failure;
 use crate::objects::rendered;
 use ioa_compile::Program;
 use ioa_coverage::coverage_of;
-use ioa_log::{
-    InputDevice, Log, LogEnd, LogEntry, LogErr, OutputDevice, perform_list, perform_log, read_all,
-    read_log, send_all,
-};
+use ioa_device::{InputDevice, LogErr, OutputDevice, read_all, send_all};
+use ioa_log::{Log, LogEnd, LogEntry, perform_list, perform_log, read_log};
 use ioa_system::End;
 use ioa_value::{Action, OutOfMemory, Types, read_list};
 use std::alloc::Global;

@@ -1,13 +1,13 @@
 //! Objects as lines of text, for people.
 
 ghost use Rattle.std.specs.Prelude.{◌≡◌, IfErr, IsErrOf, OnOk};
-ghost use Rattle.ioa_log.specs.declared.failure.LogErr.{LogErr};
-ghost use Rattle.ioa_log.specs.Failing.{FailedOnceAtMost, HasFailed};
+ghost use Rattle.ioa_device.specs.declared.failure.LogErr.{LogErr};
+ghost use Rattle.ioa_device.specs.Failing.{FailedOnceAtMost, HasFailed};
 ghost use Rattle.ioa_serving.specs.Dumps as spec;
 
 use crate::failure::Failure;
+use ioa_device::{OutputDevice, send_all};
 use ioa_dump::dump_text;
-use ioa_log::{OutputDevice, send_all};
 use ioa_object::read_object;
 use std::alloc::Global;
 

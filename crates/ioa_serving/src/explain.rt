@@ -1,12 +1,12 @@
 //! `explain`: the explanation of a topic, for people.
 
 ghost use Rattle.std.specs.Prelude.{◌≡◌, OnOk, IfErr, IsErrOf};
-ghost use Rattle.ioa_log.specs.declared.failure.LogErr.{LogErr};
-ghost use Rattle.ioa_log.specs.Failing.{FailedOnceAtMost, HasFailed};
+ghost use Rattle.ioa_device.specs.declared.failure.LogErr.{LogErr};
+ghost use Rattle.ioa_device.specs.Failing.{FailedOnceAtMost, HasFailed};
 ghost use Rattle.ioa_serving.specs.Explaining.{IsExplained, IsUnexplained};
 
 use crate::failure::Failure;
-use ioa_log::{OutputDevice, send_all};
+use ioa_device::{OutputDevice, send_all};
 use ioa_request::Topic;
 use ioa_request::explanations::explanation;
 use std::alloc::Global;

@@ -8,7 +8,7 @@ use crate::object_failure::{ObjectDetails, object_code, object_status};
 use crate::refusal::{Details, refusal_code, refusal_status};
 use crate::status::Status;
 use crate::store::StoreErr;
-use ioa_log::LogErr;
+use ioa_device::LogErr;
 use ioa_object::ObjErr;
 use ioa_request::Code;
 use ioa_run::RunErr;

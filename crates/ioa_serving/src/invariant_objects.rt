@@ -5,14 +5,14 @@ ghost use Rattle.std.specs.Option.{option_copied};
 ghost use Rattle.ioa_tree.specs.Hosts.{Hosted};
 ghost use Rattle.ioa_compose.specs.Held.{composed_of};
 ghost use Rattle.ioa_compose.specs.Simulates.{Simulates};
-ghost use Rattle.ioa_log.specs.declared.failure.LogErr.{LogErr};
-ghost use Rattle.ioa_log.specs.Breaking.{broken_of};
-ghost use Rattle.ioa_log.specs.Failing.{FailedOnceAtMost, HasFailed};
+ghost use Rattle.ioa_compile.specs.Subjects.{of_hosts};
+ghost use Rattle.ioa_device.specs.declared.failure.LogErr.{LogErr};
+ghost use Rattle.ioa_device.specs.Failing.{FailedOnceAtMost, HasFailed};
+ghost use Rattle.ioa_inspect.specs.Breaking.{broken_of};
 ghost use Rattle.ioa_serving.specs.Failing.{IsInvariantFailure, IsNoLogOf, IsUnwritten};
 ghost use Rattle.ioa_serving.specs.Json.{broken_json, verdict_line};
 ghost use Rattle.ioa_serving.specs.Logs.{found_of};
 ghost use Rattle.ioa_serving.specs.Objects.{BeginsFindingAs, IsFoundTold, IsInvariantReplayAs};
-ghost use Rattle.ioa_serving.specs.Subjects.{of_hosts};
 
 use crate::compile::{compose_text, is_object};
 use crate::failure::Failure;
@@ -20,7 +20,8 @@ use crate::invariant_replay::Finding;
 use crate::json::{broken_members, verdict_object};
 use crate::objects::objects_of;
 use ioa_compose::Composition;
-use ioa_log::{Broken, InputDevice, LogErr, OutputDevice, inspect_log, send_all};
+use ioa_device::{InputDevice, LogErr, OutputDevice, send_all};
+use ioa_inspect::{Broken, inspect_log};
 use ioa_value::OutOfMemory;
 use std::alloc::Global;
 

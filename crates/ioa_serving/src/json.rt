@@ -3,10 +3,10 @@
 ghost use Rattle.std.specs.Prelude.{◌≡◌, IfOk, option_map};
 ghost use Rattle.std.specs.String.{string_bytes};
 ghost use Rattle.ioa_system.specs.Outcomes.{ending_of};
-ghost use Rattle.ioa_log.specs.Breaking.{broken_of};
+ghost use Rattle.ioa_inspect.specs.Breaking.{broken_of};
 ghost use Rattle.ioa_serving.specs.Json.{answer_json, broken_json, verdict_line};
 
-use ioa_log::Broken;
+use ioa_inspect::Broken;
 use ioa_system::End;
 use ioa_value::OutOfMemory;
 use ioa_watch::ending_members;

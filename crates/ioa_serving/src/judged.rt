@@ -4,14 +4,14 @@ ghost use Rattle.std.specs.Prelude.{◌≡◌, IfOk, length, map, option_map};
 ghost use Rattle.ioa_compile.specs.Tables.{start_states, tabled};
 ghost use Rattle.ioa_system.specs.Outcomes.{ending_of};
 ghost use Rattle.ioa_system.specs.Logs.{logged};
-ghost use Rattle.ioa_log.specs.Breaking.{broken_of};
-ghost use Rattle.ioa_log.specs.Monitoring.{monitored};
+ghost use Rattle.ioa_monitor.specs.Monitoring.{monitored};
+ghost use Rattle.ioa_inspect.specs.Breaking.{broken_of};
 ghost use Rattle.ioa_serving.specs.Logs.{performed_in};
 ghost use Rattle.ioa_serving.specs.SeedRuns.{broken_in, judged_of, table_answer};
 
 use ioa_compile::Program;
 use ioa_compose::Composition;
-use ioa_log::{Broken, invariants};
+use ioa_inspect::{Broken, invariants};
 use ioa_system::{End, Log, LogEnd, Step, System};
 use ioa_value::OutOfMemory;
 use std::alloc::Global;

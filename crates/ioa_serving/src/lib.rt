@@ -58,6 +58,7 @@ mod seed_objects;
 mod seed_tally;
 mod seeds;
 mod sown;
+mod tallies;
 mod trace;
 mod word_sources;
 mod words_file;

@@ -2,13 +2,13 @@
 
 ghost use Rattle.std.specs.Prelude.{◌≡◌, OnOk, IfErr, IsErrOf};
 ghost use Rattle.ioa_links.specs.Library.{library_text};
-ghost use Rattle.ioa_log.specs.declared.failure.LogErr.{LogErr};
-ghost use Rattle.ioa_log.specs.Failing.{FailedOnceAtMost, HasFailed};
+ghost use Rattle.ioa_device.specs.declared.failure.LogErr.{LogErr};
+ghost use Rattle.ioa_device.specs.Failing.{FailedOnceAtMost, HasFailed};
 ghost use Rattle.ioa_serving.specs.Libraries.{IsUnlisted};
 ghost use Rattle.std.specs.Io.KnownBytes.{Appends};
 
 use crate::failure::Failure;
-use ioa_log::{OutputDevice, send_all};
+use ioa_device::{OutputDevice, send_all};
 
 /// Writes the library's source.
 ///

@@ -3,14 +3,15 @@
 ghost use Rattle.std.specs.Prelude.{◌≡◌, ◌⊎◌, IfOk, IfErr, IfSome, IsErrOf};
 ghost use Rattle.std.specs.Option.{option_copied};
 ghost use Rattle.ioa_system.specs.Outcomes.{ending_of};
-ghost use Rattle.ioa_log.specs.declared.failure.LogErr.{LogErr};
-ghost use Rattle.ioa_log.specs.Failing.{FailedOnceAtMost, HasFailed};
+ghost use Rattle.ioa_device.specs.declared.failure.LogErr.{LogErr};
+ghost use Rattle.ioa_device.specs.Failing.{FailedOnceAtMost, HasFailed};
 ghost use Rattle.ioa_serving.specs.Failing.{BeginsLogOf, IsLogReplayFailure, IsUnwritten};
 ghost use Rattle.ioa_serving.specs.Headline.{IsLogReplay};
 
 use crate::compile::program_of;
 use crate::failure::Failure;
-use ioa_log::{InputDevice, OutputDevice, replay_log};
+use ioa_device::{InputDevice, OutputDevice};
+use ioa_log::replay_log;
 use ioa_system::End;
 use std::alloc::Global;
 

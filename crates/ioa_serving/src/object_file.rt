@@ -3,8 +3,8 @@
 ghost use Rattle.std.specs.Prelude.{◌≡◌, OnOk, IfErr, IsErrOf};
 ghost use Rattle.std.specs.Option.{option_copied};
 ghost use Rattle.ioa_object.specs.Spelling.{mark};
-ghost use Rattle.ioa_log.specs.declared.failure.LogErr.{LogErr};
-ghost use Rattle.ioa_log.specs.Failing.{FailedOnceAtMost};
+ghost use Rattle.ioa_device.specs.declared.failure.LogErr.{LogErr};
+ghost use Rattle.ioa_device.specs.Failing.{FailedOnceAtMost};
 ghost use Rattle.ioa_serving.specs.Compiling.{IsMade, IsUnmade};
 ghost use Rattle.ioa_serving.specs.Devices.{change, files};
 ghost use Rattle.ioa_serving.specs.Placing.{Blocks, Places};
@@ -14,7 +14,7 @@ use crate::compile::object_of;
 use crate::failure::Failure;
 use crate::placing::put_in_place;
 use crate::store::{Store, StoreErr};
-use ioa_log::{OutputDevice, send_all};
+use ioa_device::{OutputDevice, send_all};
 use std::alloc::Global;
 
 /// The bytes with which an object begins.

@@ -1,10 +1,9 @@
 //! What a run is given, from files: the program, the words of its workers, its script, and the log from which it goes on.
 
 ghost use Rattle.std.specs.Prelude.{◌≡◌, IfOk, IfErr};
+ghost use Rattle.ioa_compile.specs.Subjects.{RunsAs, Subject};
 ghost use Rattle.ioa_serving.specs.Alone.{IsUnrun, MayGive};
 ghost use Rattle.ioa_serving.specs.HasRun.{HasReady};
-ghost use Rattle.ioa_serving.specs.Running.{RunsAs};
-ghost use Rattle.ioa_serving.specs.Subjects.{Subject};
 
 use crate::compile::program_of;
 use crate::failure::Failure;

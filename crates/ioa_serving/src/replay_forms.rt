@@ -3,8 +3,8 @@
 ghost use Rattle.std.specs.Prelude.{◌≡◌, ◌⊎◌, IfOk, IfErr, IfSome, IsErrOf};
 ghost use Rattle.std.specs.Option.{option_copied};
 ghost use Rattle.ioa_system.specs.Outcomes.{ending_of};
-ghost use Rattle.ioa_log.specs.declared.failure.LogErr.{LogErr};
-ghost use Rattle.ioa_log.specs.Failing.{FailedOnceAtMost, HasFailed};
+ghost use Rattle.ioa_device.specs.declared.failure.LogErr.{LogErr};
+ghost use Rattle.ioa_device.specs.Failing.{FailedOnceAtMost, HasFailed};
 ghost use Rattle.ioa_serving.specs.Failing.{IsFailure, IsInvariantFailure, IsLogReplayFailure, IsUnwritten};
 ghost use Rattle.ioa_serving.specs.Logs.{found_of};
 ghost use Rattle.ioa_serving.specs.Objects.{BeginsFindingAs, BeginsLogReplayAs, BeginsReplayAs, IsInvariantReplayAs, IsLogReplayAs, IsReplayAs};
@@ -15,7 +15,7 @@ use crate::invariant_replay::{Finding, replay_invariants_text};
 use crate::log_replay::replay_log_text;
 use crate::replay::replay_text;
 use crate::replay_objects::{replay_log_objects_text, replay_objects_text};
-use ioa_log::{InputDevice, OutputDevice};
+use ioa_device::{InputDevice, OutputDevice};
 use ioa_system::End;
 use std::alloc::Global;
 

@@ -1,20 +1,35 @@
-//! Reports of workers in lines, and the workers to which memory was refused.
+//! Reports of workers in lines, with what became of the turns of each entry, and the workers to which memory was refused.
 
-ghost use Rattle.std.specs.Prelude.{◌≡◌, ◌++◌, ℕ, [], Some, IfErr, IfOk, IsOk, OnErr, OnOk, map, take};
+ghost use Rattle.std.specs.Prelude.{◌≡◌, ◌≤◌, ◌++◌, ℕ, [], Some, IfErr, IfOk, IsOk, OnErr, OnOk, length, map, take};
 ghost use Rattle.std.specs.Io.KnownBytes.{Appends};
 ghost use Rattle.std.specs.String.{string_bytes};
-ghost use Rattle.ioa_log.specs.declared.failure.LogErr.TheVariants as errors;
-ghost use Rattle.ioa_log.specs.Failing.{FailedOnceAtMost, HasFailed};
+ghost use Rattle.ioa_device.specs.declared.failure.LogErr.TheVariants as errors;
+ghost use Rattle.ioa_device.specs.Failing.{FailedOnceAtMost, HasFailed};
 ghost use Rattle.ioa_serving.specs.RunReports as spec;
 ghost use Rattle.ioa_serving.specs.RunReports.{counts_text, name_at, report_line, want_line, wants_text, why_text};
+ghost use Rattle.ioa_serving.specs.Traces as traces;
 ghost use Rattle.ioa_serving.specs.Serving.{wants_of};
 
 use crate::run::Ran;
+use crate::tallies::{put_left, put_tallies};
 use ioa_compile::Program;
-use ioa_log::{LogErr, OutputDevice, send_all};
+use ioa_device::{LogErr, OutputDevice, send_all};
 use ioa_run::{Report, Why};
+use ioa_value::OutOfMemory;
 use std::alloc::{AllocError, Global};
 use std::fmt::Write;
+
+/// The reports of a run's workers; behind them of each component's own entries what became of the turns in which they were tried, and then the inputs that were not
+/// performed.
+pub fn told_text(alloc: Global, ran: &Ran) -> Result<String, OutOfMemory>
+    requires { traces.performed ran.now.log.end ≤ length ran.now.log.entries.items }
+    ensures { IfOk result (λ text. string_bytes text ≡ traces.told_text ran.now) }
+{
+    let mut text = reports_text(alloc, &ran.program, &ran.reports)?;
+    put_tallies(&mut text, ran)?;
+    put_left(&mut text, ran)?;
+    Ok(text)
+}
 
 /// The reports of a program's workers, a line for each: of the components, in order, and then of the environment.
 pub fn reports_text(

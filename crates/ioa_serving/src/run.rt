@@ -7,25 +7,26 @@ ghost use Rattle.std.specs.String.{string_bytes};
 ghost use Rattle.ioa_value.specs.Actions.{act_of};
 ghost use Rattle.ioa_system.specs.Outcomes.{ending_of};
 ghost use Rattle.ioa_system.specs.Logs.{log_end, logged};
-ghost use Rattle.ioa_log.specs.declared.failure.LogErr.{LogErr};
-ghost use Rattle.ioa_log.specs.Failing.{FailedOnceAtMost, HasFailed};
+ghost use Rattle.ioa_device.specs.declared.failure.LogErr.{LogErr};
+ghost use Rattle.ioa_device.specs.Failing.{FailedOnceAtMost, HasFailed};
 ghost use Rattle.ioa_run.specs.Alone.{IsAloneSince, IsOutcomeFrom, NoMemory, RefusesResumed};
-ghost use Rattle.ioa_run.specs.Outcomes.{HaveEnded};
-ghost use Rattle.ioa_run.specs.declared.run_err.RunErr.{RunErr};
+ghost use Rattle.ioa_board.specs.Outcomes.{HaveEnded};
+ghost use Rattle.ioa_run.specs.TalliedRuns.{IsTallied};
+ghost use Rattle.ioa_board.specs.declared.run_err.RunErr.{RunErr};
 ghost use Rattle.ioa_serving.specs.Alone.{IsCutShort, IsRunServed, IsRunUnserved, IsUnrun, count_of, streams_of};
 ghost use Rattle.ioa_serving.specs.Coverage.{behind, table_coverage};
 ghost use Rattle.ioa_serving.specs.HasRun.{HasRun};
 ghost use Rattle.ioa_serving.specs.Logs.{performed_in};
 ghost use Rattle.ioa_serving.specs.Serving.{reports_of, wants_of};
 ghost use Rattle.ioa_serving.specs.Statuses.{ending_status};
-ghost use Rattle.ioa_serving.specs.Traces.{performed, ran_text, table_reports, table_text};
+ghost use Rattle.ioa_serving.specs.Traces.{performed, ran_text, table_told, table_text};
 
 use crate::covered::performed_entries;
 use crate::failure::Failure;
 use crate::groups::groups_of;
 use crate::pacer::Pacer;
 use crate::ready::{Ready, load_run};
-use crate::reports::reports_text;
+use crate::reports::told_text;
 use crate::served::Served;
 use crate::status::status_of;
 use crate::store::Store;
@@ -33,10 +34,11 @@ use crate::trace::trace_text;
 use crate::word_sources::WordSources;
 use ioa_compile::Program;
 use ioa_coverage::coverage_of;
-use ioa_log::{Log, LogErr, OutputDevice, send_all, write_log};
+use ioa_device::{LogErr, OutputDevice, send_all};
+use ioa_log::{Log, write_log};
 use ioa_node::Words;
 use ioa_request::Settings;
-use ioa_run::{OpenGate, Outcome, Report, RunErr, resume_alone, resume_threads};
+use ioa_run::{OpenGate, Outcome, Report, RunErr, Tally, resume_alone, resume_threads};
 use ioa_value::{Action, OutOfMemory};
 use std::alloc::{AllocError, Global};
 use std::sync::Wait;
@@ -89,7 +91,7 @@ fn serve_run<W: OutputDevice>(
 ) -> Result<Served, Failure>
     requires { performed ran.now.log.end ≤ length ran.now.log.entries.items }
     ensures served { IfOk result (λ s. Appends (W.contents output.old) (W.contents output.new) (ran_text settings.now.log ran.now)
-        × (reports_of s ≡ behind (table_reports ran.now.program settings.now.reports ran.now.reports.items) (table_coverage ran.now.program settings.now.coverage (performed_in (logged ran.now.log)))) × (s.status ≡ ending_status (log_end ran.now.log.end))) }
+        × (reports_of s ≡ behind (table_told settings.now.reports ran.now) (table_coverage ran.now.program settings.now.coverage (performed_in (logged ran.now.log)))) × (s.status ≡ ending_status (log_end ran.now.log.end))) }
     ensures cut { IfErr result (λ e. IsCutShort (ran_text settings.now.log ran.now) (HasFailed (W.failure_count output.old) (W.failure_count output.new)) (W.contents output.old) (W.contents output.new) e) }
     ensures passed { (IsErrOf result (Failure.List LogErr.Io) → ⊥) → W.failure_count output.new ≡ W.failure_count output.old }
     ensures once { FailedOnceAtMost (W.failure_count output.old) (W.failure_count output.new) }
@@ -102,12 +104,18 @@ fn serve_run<W: OutputDevice>(
     })
 }
 
-/// A program that was run: its log, and a report for each component and then for the environment.
+/// A program that was run: its log, and a report for each component and then for the environment; and what is told beside the reports.
 #[derive(Drop)]
 pub struct Ran {
     pub program: Program,
     pub log: Log,
     pub reports: Vec<Report>,
+    /// What became of the turns of each component.
+    pub tallies: Vec<Tally>,
+    /// How many entries the log has from which the run went on.
+    pub before: usize,
+    /// The inputs that the environment was to perform.
+    pub script: Vec<Action>,
 }
 
 /// Reads what a run is given, and runs it. Nothing is written.
@@ -127,6 +135,7 @@ fn run_settings<H: Threads + Wait + Clock + Sync, F: Store>(
         script,
         log,
     } = ready;
+    let mut tallies = Vec::new(alloc);
     let outcome = run_sources(
         rt,
         alloc,
@@ -135,16 +144,27 @@ fn run_settings<H: Threads + Wait + Clock + Sync, F: Store>(
         &log,
         words,
         script.as_slice(),
+        &mut tallies,
     )?;
-    Ok(ran_of(program, outcome))
+    let before = log.entries.len();
+    Ok(ran_of(program, outcome, tallies, before, script))
 }
 
 /// The run without the states to which it leads.
-fn ran_of(program: Program, outcome: Outcome) -> Ran
+fn ran_of(
+    program: Program,
+    outcome: Outcome,
+    tallies: Vec<Tally>,
+    before: usize,
+    script: Vec<Action>,
+) -> Ran
     ensures program { result.program ≡ program }
     ensures entries { result.log.entries ≡ outcome.log }
     ensures end { result.log.end ≡ outcome.end }
     ensures reports { result.reports ≡ outcome.reports }
+    ensures tallies { result.tallies ≡ tallies }
+    ensures before { result.before ≡ before }
+    ensures script { result.script ≡ script }
 {
     let Outcome {
         log,
@@ -156,6 +176,9 @@ fn ran_of(program: Program, outcome: Outcome) -> Ran
         program,
         log: Log { entries: log, end },
         reports,
+        tallies,
+        before,
+        script,
     }
 }
 
@@ -168,17 +191,23 @@ fn run_sources<H: Threads + Wait + Clock + Sync>(
     log: &Log,
     words: WordSources,
     script: &[Action],
+    tallies: &mut Vec<Tally>,
 ) -> Result<Outcome, RunErr>
     requires sources { count_of words ≡ length program.now.members }
     ensures outcome { IfOk result (λ o. IsOutcomeFrom program.now (logged log.now).entries (map act_of script.now) settings.now.turns o) }
     ensures ended { IfOk result (λ o. HaveEnded settings.now.turns (log_end o.end) o.reports.items) }
     ensures alone { IfOk result (λ o. settings.now.alone ≡ true → NoMemory o.reports.items → IsAloneSince program.now (logged log.now) (streams_of words) (map act_of script.now) settings.now.turns o) }
+    ensures tallied { IfOk result (λ o. IsTallied program.now (logged log.now).entries o tallies.new.items) }
     ensures refused { RefusesResumed program.now (map act_of script.now) settings.now.turns (logged log.now) result }
     ensures threads { IsErrOf result RunErr.Threads → settings.now.alone ≡ false }
 {
     match words {
-        WordSources::Seeded(sources) => run_by(rt, alloc, program, settings, log, sources, script),
-        WordSources::Listed(sources) => run_by(rt, alloc, program, settings, log, sources, script),
+        WordSources::Seeded(sources) => run_by(
+            rt, alloc, program, settings, log, sources, script, tallies,
+        ),
+        WordSources::Listed(sources) => run_by(
+            rt, alloc, program, settings, log, sources, script, tallies,
+        ),
     }
 }
 
@@ -191,23 +220,29 @@ fn run_by<H: Threads + Wait + Clock + Sync, W: Words + Send + Drop>(
     log: &Log,
     words: Vec<W>,
     script: &[Action],
+    tallies: &mut Vec<Tally>,
 ) -> Result<Outcome, RunErr>
     requires sources { length words.items ≡ length program.now.members }
     ensures outcome { IfOk result (λ o. IsOutcomeFrom program.now (logged log.now).entries (map act_of script.now) settings.now.turns o) }
     ensures ended { IfOk result (λ o. HaveEnded settings.now.turns (log_end o.end) o.reports.items) }
     ensures alone { IfOk result (λ o. settings.now.alone ≡ true → NoMemory o.reports.items → IsAloneSince program.now (logged log.now) (map W.stream words.items) (map act_of script.now) settings.now.turns o) }
+    ensures tallied { IfOk result (λ o. IsTallied program.now (logged log.now).entries o tallies.new.items) }
     ensures refused { RefusesResumed program.now (map act_of script.now) settings.now.turns (logged log.now) result }
     ensures threads { IsErrOf result RunErr.Threads → settings.now.alone ≡ false }
 {
     let turns = settings.turns;
     if settings.alone {
-        return resume_alone(alloc, program, log, turns, words, script);
+        return resume_alone(alloc, program, log, turns, words, script, tallies);
     }
     let Ok(gate) = gate_of(rt, alloc, program, script) else {
         // memory is short for the gate, so nobody is held
-        return resume_threads(rt, alloc, program, log, turns, words, script, &OpenGate);
+        return resume_threads(
+            rt, alloc, program, log, turns, words, script, &OpenGate, tallies,
+        );
     };
-    resume_threads(rt, alloc, program, log, turns, words, script, &gate)
+    resume_threads(
+        rt, alloc, program, log, turns, words, script, &gate, tallies,
+    )
 }
 
 /// A gate for the workers of this program, by their groups.
@@ -221,10 +256,11 @@ fn gate_of<'a, H>(
     Pacer::new(rt, alloc, &groups)
 }
 
-/// The text of the reports, and behind it how often each entry was performed, where they are to be told.
+/// The text of the reports with what is told beside them, and behind it how often each entry was performed, where they are to be told.
 fn told_of(alloc: Global, settings: &Settings<'_>, ran: &Ran) -> Result<Option<String>, OutOfMemory>
+    requires { performed ran.now.log.end ≤ length ran.now.log.entries.items }
     ensures { IfOk result (λ told. option_map string_bytes told
-        ≡ behind (table_reports ran.now.program settings.now.reports ran.now.reports.items) (table_coverage ran.now.program settings.now.coverage (performed_in (logged ran.now.log)))) }
+        ≡ behind (table_told settings.now.reports ran.now) (table_coverage ran.now.program settings.now.coverage (performed_in (logged ran.now.log)))) }
 {
     let reports = told_reports(alloc, settings, ran)?;
     if !settings.coverage {
@@ -246,16 +282,17 @@ fn put_behind(before: Option<String>, text: String) -> Result<String, OutOfMemor
     Ok(all)
 }
 
-/// The text of the reports, where they are to be told.
+/// The text of the reports and of what is told beside them, where they are to be told.
 fn told_reports(
     alloc: Global,
     settings: &Settings<'_>,
     ran: &Ran,
-) -> Result<Option<String>, AllocError>
-    ensures { IfOk result (λ told. option_map string_bytes told ≡ table_reports ran.now.program settings.now.reports ran.now.reports.items) }
+) -> Result<Option<String>, OutOfMemory>
+    requires { performed ran.now.log.end ≤ length ran.now.log.entries.items }
+    ensures { IfOk result (λ told. option_map string_bytes told ≡ table_told settings.now.reports ran.now) }
 {
     if settings.reports {
-        let text = reports_text(alloc, &ran.program, &ran.reports)?;
+        let text = told_text(alloc, ran)?;
         return Ok(Some(text));
     }
     Ok(None)

@@ -7,7 +7,7 @@ ghost use Rattle.ioa_serving.specs.Alone.{IsScript, IsScriptless};
 
 use crate::failure::Failure;
 use crate::store::Store;
-use ioa_log::LogErr;
+use ioa_device::LogErr;
 use ioa_value::{Action, Types, read_list};
 use std::alloc::Global;
 

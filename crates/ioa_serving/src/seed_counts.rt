@@ -6,12 +6,12 @@ ghost use Rattle.std.specs.Option.{option_map_or};
 ghost use Rattle.ioa_system.specs.Logs as logs;
 ghost use Rattle.ioa_system.specs.Logs.{log_end};
 ghost use Rattle.ioa_system.specs.Outcomes.{ending_of};
-ghost use Rattle.ioa_log.specs.Breaking.{broken_of};
+ghost use Rattle.ioa_inspect.specs.Breaking.{broken_of};
 ghost use Rattle.ioa_serving.specs.Seeds.{with_refusals};
 
 use crate::judged::JudgedRun;
 use crate::status::Status;
-use ioa_log::Broken;
+use ioa_inspect::Broken;
 use ioa_system::{End, LogEnd};
 use std::alloc::{AllocError, Global};
 

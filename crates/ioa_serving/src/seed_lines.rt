@@ -6,7 +6,7 @@ ghost use Rattle.std.specs.String.{string_bytes};
 ghost use Rattle.ioa_system.specs.Outcomes.{ending_of};
 ghost use Rattle.ioa_request.specs.Pasted.{texts};
 ghost use Rattle.ioa_serving.specs.SeedRuns.{judged_of};
-ghost use Rattle.ioa_log.specs.Breaking.{broken_of};
+ghost use Rattle.ioa_inspect.specs.Breaking.{broken_of};
 ghost use Rattle.ioa_serving.specs.Logs.{broken_words};
 ghost use Rattle.ioa_serving.specs.Seeds as spec;
 ghost use Rattle.ioa_serving.specs.Seeds.{answer_behind, answers_behind, broken_behind, counts_line, inspected_behind, refusals_behind, seed_line};
@@ -14,7 +14,7 @@ ghost use Rattle.ioa_serving.specs.Seeds.{answer_behind, answers_behind, broken_
 use crate::judged::JudgedRun;
 use crate::seed_counts::Counts;
 use crate::seed_objects::{counts_object, seed_object};
-use ioa_log::Broken;
+use ioa_inspect::Broken;
 use ioa_request::numbered_digits;
 use ioa_system::End;
 use ioa_value::OutOfMemory;

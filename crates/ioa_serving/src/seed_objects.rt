@@ -5,7 +5,7 @@ ghost use Rattle.std.specs.List.{join_by, zip};
 ghost use Rattle.std.specs.String.{string_bytes};
 ghost use Rattle.ioa_system.specs.Outcomes.{ending_of};
 ghost use Rattle.ioa_request.specs.Pasted.{texts};
-ghost use Rattle.ioa_log.specs.Breaking.{broken_of};
+ghost use Rattle.ioa_inspect.specs.Breaking.{broken_of};
 ghost use Rattle.ioa_serving.specs.SeedRuns.{judged_of};
 ghost use Rattle.ioa_serving.specs.Rows as rows;
 ghost use Rattle.ioa_serving.specs.Seeds as spec;
@@ -14,7 +14,7 @@ ghost use Rattle.ioa_serving.specs.Seeds.{broken_count, inspected_json, refusals
 use crate::json::{answer_members, broken_members};
 use crate::judged::JudgedRun;
 use crate::seed_counts::Counts;
-use ioa_log::Broken;
+use ioa_inspect::Broken;
 use ioa_request::numbered_digits;
 use ioa_system::End;
 use ioa_value::OutOfMemory;

@@ -5,11 +5,11 @@ ghost use Rattle.std.specs.String.{string_bytes};
 ghost use Rattle.std.specs.Io.KnownBytes.{Appends, Keeps};
 ghost use Rattle.ioa_value.specs.Actions.{act_of};
 ghost use Rattle.ioa_system.specs.Logs.{logged};
-ghost use Rattle.ioa_log.specs.declared.failure.LogErr.{LogErr};
-ghost use Rattle.ioa_log.specs.Failing.{FailedOnceAtMost, HasFailed};
+ghost use Rattle.ioa_device.specs.declared.failure.LogErr.{LogErr};
+ghost use Rattle.ioa_device.specs.Failing.{FailedOnceAtMost, HasFailed};
 ghost use Rattle.ioa_request.specs.Pasted.{texts};
 ghost use Rattle.ioa_run.specs.Alone.{NoMemory, RefusesResumed};
-ghost use Rattle.ioa_run.specs.declared.run_err.RunErr.{RunErr};
+ghost use Rattle.ioa_board.specs.declared.run_err.RunErr.{RunErr};
 ghost use Rattle.ioa_serving.specs.Coverage.{table_coverage};
 ghost use Rattle.ioa_serving.specs.SeedRuns.{IsBegun, IsCovered, IsNoneRun, IsSeedJudgment, IsSeedRefused, IsSeedRun, IsTallyOf, IsTold, judged_of};
 ghost use Rattle.ioa_serving.specs.Devices.{files};
@@ -27,7 +27,8 @@ use crate::seed_tally::Tally;
 use crate::served::Served;
 use crate::sown::{Sown, load_sown};
 use crate::store::Store;
-use ioa_log::{Log, LogErr, OutputDevice, send_all};
+use ioa_device::{LogErr, OutputDevice, send_all};
+use ioa_log::Log;
 use ioa_request::{Seeds, numbered_key};
 use ioa_run::{Report, RunErr, Why, resume_alone};
 use std::alloc::Global;
@@ -162,6 +163,7 @@ fn run_seed(alloc: Global, ready: &Ready, turns: u64, number: u64) -> Result<Log
     let Ok(words) = seeded(alloc, key, program.members().len()) else {
         return Err(RunErr::OutOfMemory);
     };
+    let mut tallies = Vec::new(alloc);
     let outcome = resume_alone(
         alloc,
         program,
@@ -169,6 +171,7 @@ fn run_seed(alloc: Global, ready: &Ready, turns: u64, number: u64) -> Result<Log
         turns,
         words,
         ready.script.as_slice(),
+        &mut tallies,
     )?;
     if has_memory(outcome.reports.as_slice()) {
         Ok(Log {

@@ -10,14 +10,13 @@ ghost use Rattle.ioa_tree.specs.Tree.{CompositionTree};
 ghost use Rattle.ioa_tree.specs.View.{tree_of};
 ghost use Rattle.ioa_compose.specs.Held.{composed_of};
 ghost use Rattle.ioa_compose.specs.Simulates.{Simulates};
+ghost use Rattle.ioa_compile.specs.Subjects.{Runs, RunsAs, Subject, of_hosts};
 ghost use Rattle.ioa_request.specs.Pasted.{texts};
 ghost use Rattle.ioa_serving.specs.Alone.{IsUnrun};
 ghost use Rattle.ioa_serving.specs.Failing.{IsRefusedGiven, IsRefusedNamed};
 ghost use Rattle.ioa_serving.specs.Headline.{IsFileOf, begins_object};
-ghost use Rattle.ioa_serving.specs.Running.{Runs, RunsAs};
 ghost use Rattle.ioa_serving.specs.SeedRuns.{HasSown, IsSpecification, StandsFor};
 ghost use Rattle.ioa_serving.specs.Seeds.{IsUnmonitored};
-ghost use Rattle.ioa_serving.specs.Subjects.{Subject, of_hosts};
 ghost use Rattle.ioa_serving.specs.Watching.{IsUnwatched};
 
 use crate::compile::{is_object, program_of};

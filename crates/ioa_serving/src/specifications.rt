@@ -4,7 +4,7 @@ ghost use Rattle.std.specs.Prelude.{◌≡◌, ◌⊎◌, All, IfOk, IfErr, fals
 ghost use Rattle.std.specs.List.{AllZip};
 ghost use Rattle.ioa_tree.specs.View.{tree_of};
 ghost use Rattle.ioa_tree.specs.WellFormed.{WellFormed};
-ghost use Rattle.ioa_log.specs.Monitoring.{hides};
+ghost use Rattle.ioa_monitor.specs.Monitoring.{hides};
 ghost use Rattle.ioa_request.specs.Pasted.{texts};
 ghost use Rattle.ioa_serving.specs.declared.failure.Failure.{Failure};
 ghost use Rattle.ioa_serving.specs.Headline.{Spells};
@@ -15,7 +15,7 @@ use crate::failure::Failure;
 use ioa_check::{Checked, check};
 use ioa_compile::{Program, compile};
 use ioa_compose::compose;
-use ioa_log::hides_actions;
+use ioa_monitor::hides_actions;
 use ioa_syntax::{Refusal, parse};
 use std::alloc::Global;
 

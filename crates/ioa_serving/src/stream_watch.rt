@@ -2,8 +2,8 @@
 
 ghost use Rattle.std.specs.Prelude.{◌≡◌, ◌⊎◌, IfOk, IfErr, IsErrOf};
 ghost use Rattle.std.specs.List.{list_any};
-ghost use Rattle.ioa_log.specs.declared.failure.LogErr.{LogErr};
-ghost use Rattle.ioa_log.specs.Failing.{FailedOnceAtMost, HasFailed};
+ghost use Rattle.ioa_device.specs.declared.failure.LogErr.{LogErr};
+ghost use Rattle.ioa_device.specs.Failing.{FailedOnceAtMost, HasFailed};
 ghost use Rattle.ioa_request.specs.Pasted.{texts};
 ghost use Rattle.ioa_watch.specs.Streaming.{has_refused};
 ghost use Rattle.ioa_serving.specs.Serving.{reports_of};
@@ -15,7 +15,7 @@ use crate::served::Served;
 use crate::specifications::specified_in;
 use crate::status::Status;
 use crate::stream_counts::counts_or_none;
-use ioa_log::{InputDevice, OutputDevice};
+use ioa_device::{InputDevice, OutputDevice};
 use ioa_watch::{Watcher, watch};
 use std::alloc::Global;
 

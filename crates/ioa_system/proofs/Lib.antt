@@ -9,5 +9,4 @@ pub mod Stepping
 pub mod Running
 pub mod Tracing
 pub mod Subjects
-pub mod Hosting
 pub mod PrintedBytes

@@ -2,19 +2,26 @@
 use Rattle.std.proofs.Common.{◌≡◌, ℕ, suc, ◌+◌, Bool, true, false, cond, List, [], ◌∷◌, filter, sym, ap, ap₂, subst, ◌∙◌, arith}
 use Rattle.std.specs.Prelude.{slice_index, unwrap_or}
 use Rattle.ioa_value.specs.Actions.{Act}
+use Rattle.ioa_value.specs.Plain.{Val}
 use Rattle.ioa_tree.specs.Components.{Component, has, is_kind}
-use Rattle.ioa_tree.specs.Likes.{AllLike, IsLike, MovesLike}
-use Rattle.ioa_tree.specs.Runs.{run}
+use Rattle.ioa_tree.specs.Compositions.{Composed, components_of, starts_of}
+use Rattle.ioa_tree.specs.Hosts.{Hosted, hosts_of, host_starts}
+use Rattle.ioa_tree.specs.Likes.{AllLike, IsLike, MovesLike, RunsLike}
+use Rattle.ioa_tree.specs.Runs.{Ending, Reached, run}
 use Rattle.ioa_tree.specs.Steps.{Moved, next, not_an_action, not_enabled, fault, participants, participants_from, step}
 use Rattle.ioa_tree.proofs.Simulation.{asked_like, step_like}
+use Rattle.ioa_compose.specs.Simulates.{SlotsHoldAt}
+use Rattle.ioa_compile.specs.Correspondence.{CorrespondsAt}
 use Rattle.ioa_compile.specs.Programs.{Prog}
-use Rattle.ioa_compile.specs.Subjects.{InSlots, RunsAs, Subject, its_components, its_starts}
+use Rattle.ioa_compile.specs.Subjects.{InSlots, RunsAs, Subject, its_components, its_starts, of_composition, of_hosts, of_table}
 use Rattle.ioa_compile.specs.Tables.{start_states, tabled}
-use Rattle.ioa_compile.proofs.Subjects.{does_as, external_as, many_as, owner_as, participants_as, run_as, step_as, trace_as}
+use Rattle.ioa_compile.proofs.Subjects.{all_held, all_own, does_as, external_as, many_as, owner_as, participants_as, run_as, step_as, trace_as}
+use Rattle.ioa_system.specs.declared.runs.Run.{Run}
 use Rattle.ioa_system.specs.Likeness.{InSlotsOf, SameExternal, SameOwner, SameParticipants, SameRun, SameStart, SameStep, SameStepFrom, SameTrace}
 use Rattle.ioa_system.specs.Logs.{worker}
 use Rattle.ioa_system.specs.Participants.{renumbered}
 use Rattle.ioa_system.specs.Preconditions.{is_faulted, precondition_faults}
+use Rattle.ioa_system.specs.Records.{IsRunAs, IsTableRun, reached_of}
 
 pub same_owner : SameOwner
 same_owner p s a runs = owner_as p s runs a
@@ -46,6 +53,42 @@ pub asked_as : (p : Prog) (s : Subject) → RunsAs p s → (acts : List Act) (a 
     → precondition_faults (its_components s) a (run (its_components s) acts (its_starts s)).states ≡ precondition_faults (tabled p) a (run (tabled p) acts (start_states p)).states
 asked_as p s runs acts a =
     ap is_faulted (asked_like (InSlots p s) 0 (its_components s) (tabled p) a _ _ (does_as p s runs).components (run_as p s runs acts).states)
+
+-- ---- runs of lists
+
+-- what the table's run is, the subject's run is
+pub run_of : (p : Prog) (s : Subject) → RunsAs p s → (acts : List Act) (r : Run) → IsTableRun p acts r → IsRunAs p s acts r
+run_of p s runs acts r t = record {
+  reached = subst (λ (q : Reached (List Val)). RunsLike (InSlots p s) (run (its_components s) acts (its_starts s)) q) (sym t.reached) (run_as p s runs acts);
+  trace = t.trace ∙ trace_as p s runs acts r.performed;
+  types = t.types;
+}
+
+abbrev reached_at : ℕ → List (List Val) → Ending → Reached (List Val)
+reached_at n ss e = record { performed = n; states = ss; ending = e }
+
+-- said of the program's own table it is this table's run, of a composition it reaches states that correspond, of hosts slots that hold theirs
+pub table_run : (p : Prog) (acts : List Act) (r : Run) → IsRunAs p (of_table p) acts r → IsTableRun p acts r
+table_run p acts r k =
+    let own : Reached (List Val) = run (tabled p) acts (start_states p) in
+    let its : Reached (List Val) = reached_of r in
+    let like : RunsLike (InSlots p (of_table p)) own its = k.reached in
+    record {
+      reached =
+          ap (λ n. reached_at n its.states its.ending) (sym like.performed)
+          ∙ ap (λ ss. reached_at own.performed ss its.ending) (sym (all_own p p 0 own.states its.states like.states))
+          ∙ ap (reached_at own.performed own.states) (sym like.ending);
+      trace = k.trace;
+      types = k.types;
+    }
+
+pub composition_run : (p : Prog) (c : Composed) (acts : List Act) (r : Run) → IsRunAs p (of_composition c) acts r
+    → RunsLike (CorrespondsAt c.members) (run (components_of c) acts (starts_of c)) (reached_of r)
+composition_run p c acts r k = k.reached
+
+pub hosts_run : (p : Prog) (h : Hosted) (acts : List Act) (r : Run) → IsRunAs p (of_hosts h) acts r
+    → RunsLike (SlotsHoldAt h.hosts) (run (hosts_of h) acts (host_starts h)) (reached_of r)
+hosts_run p h acts r k = record { performed = k.reached.performed; ending = k.reached.ending; states = all_held p h 0 _ _ k.reached.states }
 
 -- ---- steps of the participants alone
 

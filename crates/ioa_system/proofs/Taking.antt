@@ -18,8 +18,8 @@ use Rattle.ioa_tree.specs.declared.tree.Kind.TheVariants.{Input, Output, Interna
 use Rattle.ioa_tree.specs.Components.{Component, has, owns, is_local, is_output}
 use Rattle.ioa_tree.specs.Runs.{is_external}
 use Rattle.ioa_tree.specs.Steps.{participants_from, participants, owner_from, owner}
-use Rattle.ioa_compose.specs.Index.{named_among, named_in}
-use Rattle.ioa_compose.proofs.IndexLemmas.{is-of}
+use Rattle.ioa_clash.specs.Index.{named_among, named_in}
+use Rattle.ioa_clash.proofs.IndexLemmas.{is-of}
 use Rattle.ioa_compile.specs.declared.sites.Site.{Site}
 use Rattle.ioa_compile.specs.Programs.{EntryCode, MemberCode, Prog}
 use Rattle.ioa_compile.specs.Shown.{entry_code}

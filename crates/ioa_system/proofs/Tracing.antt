@@ -1,5 +1,5 @@
 -- A run, action by action.
-use Rattle.std.proofs.Common.{◌≡◌, ℕ, ◌+◌, ◌≤◌, List, [], ◌∷◌, ◌++◌, length, take, filter, Bool, true, false, None, Result, Ok, Err, IfOk, refl, sym, ◌∙◌, ap, subst, arith, length-append, if◌then◌else◌}
+use Rattle.std.proofs.Common.{◌≡◌, ℕ, ◌+◌, ◌≤◌, List, [], ◌∷◌, ◌++◌, length, take, filter, Bool, true, false, None, refl, sym, ◌∙◌, ap, subst, arith, length-append, if◌then◌else◌}
 use Rattle.std.proofs.lemmas.List.{append-nil, take_all, take-append-le}
 use Rattle.std.proofs.lemmas.List.Elements.{filter-append}
 use Rattle.ioa_value.specs.Actions.{Name, Act}
@@ -7,18 +7,11 @@ use Rattle.ioa_value.specs.Plain.{Val}
 use Rattle.ioa_tree.specs.Components.{Component}
 use Rattle.ioa_tree.specs.Steps.{Moved, next, not_an_action, not_enabled, fault, step}
 use Rattle.ioa_tree.specs.Runs.{Ending, Reached, done, not_an_action_at, not_enabled_at, fault_at, after, run_from, run, is_external, trace}
-use Rattle.ioa_tree.specs.Compositions.{Composed, components_of, starts_of}
-use Rattle.ioa_tree.proofs.Simulation.{run_like, trace_like}
-use Rattle.ioa_tree.specs.Likes.{RunsLike}
 use Rattle.ioa_compile.specs.Programs.{Prog}
 use Rattle.ioa_compile.specs.Tables.{tabled, start_states}
-use Rattle.ioa_compile.specs.Correspondence.{CorrespondsAt}
-use Rattle.ioa_compile.specs.Implements.{Implements}
 use Rattle.ioa_system.specs.declared.outcomes.End.{End}
-use Rattle.ioa_system.specs.declared.runs.Run.{Run}
 use Rattle.ioa_system.specs.Outcomes.{ending_of, performed_by}
 use Rattle.ioa_system.specs.Progress.{Progress, reached_by, worker_after, IsRunOver}
-use Rattle.ioa_system.specs.Records.{IsTableRun, IsSourceRun}
 
 -- ---- one action more
 
@@ -170,19 +163,3 @@ module _ (p : Prog) (acts traced : List Act) (a : Act) (r : Progress) (over : Is
   pub over_took : (shown : List Act) (now : Progress) (n : ℕ) → IsRunOver p (acts ++ a ∷ []) shown now → ending_of r.end ≡ done n
       → reached_by now ≡ after n r.states (step (tabled p) a r.states) (λ ts. run_from (n + 1) (tabled p) [] ts)
   over_took shown now n o e = let d : r.end ≡ End.Done n = done_at r.end n e in o.reached ∙ more ∙ rw d refl
-
--- what the table's run is, the source's run is
-pub source_run : (p : Prog) (acts : List Act) (r : Run) (c : Composed) → IsTableRun p acts r → Implements p c → IsSourceRun c acts r
-source_run p acts r c t m =
-    let P : Reached (List Val) → Type 0 = λ h. RunsLike (CorrespondsAt c.members) (run (components_of c) acts (starts_of c)) h in
-    let like : P (run (tabled p) acts (start_states p)) = run_like (CorrespondsAt c.members) (components_of c) (tabled p) acts (starts_of c) (start_states p) m.components m.starts in
-    let same : trace c.hidden (components_of c) acts r.performed ≡ trace c.hidden (tabled p) acts r.performed =
-    trace_like (CorrespondsAt c.members) c.hidden (components_of c) (tabled p) acts r.performed m.components in
-    let hid : trace p.hidden (tabled p) acts r.performed ≡ trace c.hidden (tabled p) acts r.performed =
-    ap (λ (h : List Name). trace h (tabled p) acts r.performed) m.hidden in
-    record { reached = subst P (sym t.reached) like; trace = t.trace ∙ hid ∙ sym same }
-
-pub source_runs : {E : Type 0} (p : Prog) (acts : List Act) (r : Result Run E) → IfOk r (IsTableRun p acts)
-    → IfOk r (λ x. (c : Composed) → Implements p c → IsSourceRun c acts x)
-source_runs p acts (Ok x) t = λ c m. source_run p acts x c t m
-source_runs p acts (Err e) t = tt

@@ -4,12 +4,9 @@ use Rattle.ioa_value.specs.Actions.{Act, act_of}
 use Rattle.ioa_value.specs.Plain.{Val}
 use Rattle.ioa_tree.specs.Runs.{Reached, run, trace}
 use Rattle.ioa_tree.specs.Likes.{RunsLike}
-use Rattle.ioa_tree.specs.Compositions.{Composed, components_of, starts_of}
-use Rattle.ioa_tree.specs.Hosts.{Hosted, hosts_of, host_starts}
-use Rattle.ioa_compose.specs.Simulates.{SlotsHoldAt}
 use Rattle.ioa_compile.specs.Programs.{Prog}
+use Rattle.ioa_compile.specs.Subjects.{InSlots, Subject, its_components, its_hidden, its_starts}
 use Rattle.ioa_compile.specs.Tables.{tabled, start_states}
-use Rattle.ioa_compile.specs.Correspondence.{CorrespondsAt}
 use Rattle.ioa_system.specs.declared.runs.Run.{Run}
 use Rattle.ioa_system.specs.Outcomes.{ending_of}
 use Rattle.ioa_system.specs.Systems.{slot_types, types_of, values_of}
@@ -26,12 +23,8 @@ pub record IsTableRun (p : Prog) (acts : List Act) (r : Run) : Type 0 where
   pub trace : trace_of r ≡ trace p.hidden (tabled p) acts r.performed
   pub types : types_of r.states.items ≡ slot_types p.members
 
--- the same actions performed as in the composition, the same end, states that correspond, and the composition's trace
-pub record IsSourceRun (c : Composed) (acts : List Act) (r : Run) : Type 0 where
-  pub reached : RunsLike (CorrespondsAt c.members) (run (components_of c) acts (starts_of c)) (reached_of r)
-  pub trace : trace_of r ≡ trace c.hidden (components_of c) acts r.performed
-
--- the same actions performed as by the hosts, the same end, slots that hold the hosts' states, and the hosts' trace
-pub record IsHostRun (h : Hosted) (acts : List Act) (r : Run) : Type 0 where
-  pub reached : RunsLike (SlotsHoldAt h.hosts) (run (hosts_of h) acts (host_starts h)) (reached_of r)
-  pub trace : trace_of r ≡ trace h.hidden (hosts_of h) acts r.performed
+-- the same actions performed as by the subject, the same end, slots of the program that hold the subject's states, and its trace
+pub record IsRunAs (p : Prog) (s : Subject) (acts : List Act) (r : Run) : Type 0 where
+  pub reached : RunsLike (InSlots p s) (run (its_components s) acts (its_starts s)) (reached_of r)
+  pub trace : trace_of r ≡ trace (its_hidden s) (its_components s) acts r.performed
+  pub types : types_of r.states.items ≡ slot_types p.members

@@ -2,11 +2,8 @@
 
 ghost use Rattle.std.specs.Prelude.{◌≡◌, IfOk, map};
 ghost use Rattle.ioa_value.specs.Actions.{act_of};
-ghost use Rattle.ioa_tree.specs.Compositions.{Composed};
-ghost use Rattle.ioa_tree.specs.Hosts.{Hosted};
-ghost use Rattle.ioa_compose.specs.Simulates.{Simulates};
-ghost use Rattle.ioa_compile.specs.Implements.{Implements};
-ghost use Rattle.ioa_system.specs.Records.{IsTableRun, IsSourceRun, IsHostRun};
+ghost use Rattle.ioa_compile.specs.Subjects.{RunsAs, Subject};
+ghost use Rattle.ioa_system.specs.Records.{IsRunAs};
 
 use crate::outcomes::End;
 use crate::runner::Runner;
@@ -28,17 +25,9 @@ pub struct Run {
     pub trace: Vec<Action>,
 }
 
-/// The run of the program over the actions.
+/// The run of the program over the actions: of whatever it runs as.
 pub fn run_list(alloc: Global, program: &Program, actions: &[Action]) -> Result<Run, OutOfMemory>
-    ensures machine { IfOk result (IsTableRun program.now (map act_of actions.now)) }
-    ensures source { IfOk result (λ r. (c : Composed) → Implements program.now c → IsSourceRun c (map act_of actions.now) r) }
-    ensures hosts { IfOk result (λ r. (h : Hosted) (c : Composed) → Simulates h c → Implements program.now c → IsHostRun h (map act_of actions.now) r) }
-{
-    run_table(alloc, program, actions)
-}
-
-fn run_table(alloc: Global, program: &Program, actions: &[Action]) -> Result<Run, OutOfMemory>
-    ensures { IfOk result (IsTableRun program.now (map act_of actions.now)) }
+    ensures { IfOk result (λ r. (s : Subject) → RunsAs program.now s → IsRunAs program.now s (map act_of actions.now) r) }
 {
     let mut runner = Runner::start(alloc, program)?;
     let mut trace = Vec::new(alloc);

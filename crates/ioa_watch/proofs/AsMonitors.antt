@@ -11,7 +11,7 @@ use Rattle.ioa_tree.specs.Steps.{Moved, next, not_an_action, not_enabled, fault,
 use Rattle.ioa_tree.specs.Runs.{Ending}
 use Rattle.ioa_compile.specs.Programs.{Prog}
 use Rattle.ioa_compile.specs.Tables.{start_states, tabled}
-use Rattle.ioa_log.specs.Monitoring.{after_action, monitored_from}
+use Rattle.ioa_monitor.specs.Monitoring.{after_action, monitored_from}
 use Rattle.ioa_watch.specs.AsMonitors.{RefusesAsMonitor}
 use Rattle.ioa_watch.specs.Names.{names_of}
 use Rattle.ioa_watch.specs.Watched.{Watching, answered, hearing_all, starting, tried}

@@ -9,10 +9,10 @@ use Rattle.ioa_value.specs.Actions.{Act}
 use Rattle.ioa_value.specs.Lists.{after_line, first_line, lines}
 use Rattle.ioa_value.specs.Table.{Table}
 use Rattle.ioa_compile.specs.Programs.{Prog}
-use Rattle.ioa_log.specs.Failing.{IsLineErr}
-use Rattle.ioa_log.specs.LineReading.{AreTaken}
-use Rattle.ioa_log.specs.declared.failure.LogErr.{LogErr}
-use Rattle.ioa_log.proofs.LineReading.{of_all, of_line}
+use Rattle.ioa_device.specs.Failing.{IsLineErr}
+use Rattle.ioa_device.specs.LineReading.{AreTaken}
+use Rattle.ioa_device.specs.declared.failure.LogErr.{LogErr}
+use Rattle.ioa_device.proofs.LineReading.{of_all, of_line}
 use Rattle.ioa_watch.specs.Streams.{Came, IsBegun, IsFailed, IsNoLine, IsNotJson, IsWatched, accepted, is_over, known_by, told}
 use Rattle.ioa_watch.proofs.StreamLemmas.{came_none}
 

@@ -7,7 +7,7 @@ use Rattle.ioa_value.specs.Actions.{Name, Act}
 use Rattle.ioa_value.specs.Reads.{Reads}
 use Rattle.ioa_value.specs.Table.{Table}
 use Rattle.ioa_json.specs.Says.{IsJson, text_at}
-use Rattle.ioa_log.specs.declared.failure.LogErr.{LogErr}
+use Rattle.ioa_device.specs.declared.failure.LogErr.{LogErr}
 use Rattle.ioa_watch.specs.declared.lines.LineKind.{LineKind}
 use Rattle.ioa_watch.specs.Listening.{IsLineOfKind, IsValueOfKind}
 use Rattle.ioa_watch.specs.Streams.{StandsFor, TellsAct, TellsEnd, before_values}

@@ -5,8 +5,8 @@ use Rattle.std.specs.Str.{bytes_eq}
 use Rattle.ioa_value.specs.Actions.{Name}
 use Rattle.ioa_value.specs.Table.{place_from}
 use Rattle.ioa_value.proofs.NameLemmas.{first_last, same_name}
-use Rattle.ioa_compose.specs.Index.{Adds, HasNothing, under}
-use Rattle.ioa_compose.specs.declared.index.Index.{Index}
+use Rattle.ioa_clash.specs.Index.{Adds, HasNothing, under}
+use Rattle.ioa_clash.specs.declared.index.Index.{Index}
 use Rattle.ioa_watch.specs.Placed.{ArePlaced}
 
 pub placed_none : (index : Index ℕ) → HasNothing index → ArePlaced index []

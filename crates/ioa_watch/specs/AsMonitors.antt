@@ -6,7 +6,7 @@ use Rattle.ioa_value.specs.Table.{contains}
 use Rattle.ioa_tree.specs.Components.{has}
 use Rattle.ioa_compile.specs.Programs.{Prog}
 use Rattle.ioa_compile.specs.Tables.{start_states, tabled}
-use Rattle.ioa_log.specs.Monitoring.{monitored}
+use Rattle.ioa_monitor.specs.Monitoring.{monitored}
 use Rattle.ioa_watch.specs.Names.{names_of}
 use Rattle.ioa_watch.specs.Watchers.{refused_by}
 

@@ -2,8 +2,8 @@
 use Rattle.std.specs.Prelude.{◌≡◌, ℕ, List, slice_get}
 use Rattle.ioa_value.specs.Actions.{Name}
 use Rattle.ioa_value.specs.Table.{place_from}
-use Rattle.ioa_compose.specs.Index.{under}
-use Rattle.ioa_compose.specs.declared.index.Index.{Index}
+use Rattle.ioa_clash.specs.Index.{under}
+use Rattle.ioa_clash.specs.declared.index.Index.{Index}
 
 -- under each name its place stands first
 abbrev pub ArePlaced : Index ℕ → List Name → Type 0

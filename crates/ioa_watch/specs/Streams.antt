@@ -10,7 +10,7 @@ use Rattle.ioa_value.specs.Table.{Table, contains}
 use Rattle.ioa_tree.specs.Runs.{Ending}
 use Rattle.ioa_compile.specs.Programs.{Prog}
 use Rattle.ioa_system.specs.Endings.{ending_text}
-use Rattle.ioa_log.specs.declared.failure.LogErr.{LogErr}
+use Rattle.ioa_device.specs.declared.failure.LogErr.{LogErr}
 use Rattle.ioa_json.specs.Says.{IsJson, text_at}
 use Rattle.ioa_watch.specs.Json.{ending_json}
 use Rattle.ioa_watch.specs.Names.{names_of}

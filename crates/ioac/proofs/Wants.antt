@@ -1,7 +1,7 @@
 -- What is told, and then of workers to which memory was refused.
 use Rattle.std.proofs.Common.{◌≡◌, ◌++◌, ◌∙◌, ◌∷◌, ℕ, List, [], inl, inr, None, ap, append_assoc, refl, subst, take}
 use Rattle.std.proofs.KnownBytes.{Appends-trans}
-use Rattle.ioa_log.proofs.Lines.{failed_since}
+use Rattle.ioa_device.proofs.Pieces.{failed_since}
 use Rattle.ioa_serving.specs.declared.failure.Failure.{Failure}
 use Rattle.ioa_serving.specs.declared.status.Status.{Status}
 use Rattle.ioa_serving.specs.Devices.{Change, Failed, Passed, Seen, Untouched, Wrote, onward, until}

@@ -3,7 +3,7 @@ use Rattle.std.specs.Prelude.{◌≡◌, ℕ, ◌⊎◌, ◌++◌, ◌∷◌, �
 use Rattle.clap.specs.Words.{IsAmong, Text, fault_of, subcommand_of}
 use Rattle.clap.specs.declared.error.kind.ErrorKind.{ErrorKind}
 use Rattle.clap.specs.declared.error.kind.ErrorKind.TheVariants as kinds
-use Rattle.ioa_log.specs.declared.failure.LogErr.{LogErr}
+use Rattle.ioa_device.specs.declared.failure.LogErr.{LogErr}
 use Rattle.ioa_value.specs.Actions.{Name}
 use Rattle.ioa_serving.specs.declared.failure.Failure.{Failure}
 use Rattle.ioa_request.specs.declared.cut.Cut.{Cut}

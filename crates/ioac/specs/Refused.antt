@@ -4,7 +4,7 @@ use Rattle.std.specs.Prelude.{◌≡◌, ◌≢◌, ◌⊎◌, ◌++◌, ◌∷�
 use Rattle.ioa_value.specs.Actions.{Name}
 use Rattle.ioa_value.specs.Table.{Table}
 use Rattle.ioa_system.specs.Logs.{Logged}
-use Rattle.ioa_log.specs.declared.failure.LogErr.{LogErr}
+use Rattle.ioa_device.specs.declared.failure.LogErr.{LogErr}
 use Rattle.ioa_log.specs.Begun.{IsBegun}
 use Rattle.ioa_account.specs.Lines.{line_of_action}
 use Rattle.ioa_causes.specs.Worded.{wording}

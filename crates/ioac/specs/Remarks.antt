@@ -14,7 +14,7 @@ use Rattle.ioa_compose.specs.Held.{composed_of}
 use Rattle.ioa_compose.specs.Simulates.{Simulates}
 use Rattle.ioa_compile.specs.Implements.{Implements}
 use Rattle.ioa_compile.specs.Programs.{Prog}
-use Rattle.ioa_object.specs.declared.failure.ObjErr.{ObjErr}
+use Rattle.ioa_bytes.specs.declared.failure.ObjErr.{ObjErr}
 use Rattle.ioa_system.specs.Logs.{Logged, actions_of, logged}
 use Rattle.ioa_log.specs.Begun.{IsBegun, IsUnbegun}
 use Rattle.ioa_log.specs.LogTexts.{GoesOnAt, HasNoEnd, NoEntryAt, NotJsonAt, ReadsLog, log_text}

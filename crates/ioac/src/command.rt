@@ -1,7 +1,7 @@
 //! The command, from the words of a command line and its devices to an exit status.
 
 ghost use Rattle.std.specs.Prelude.{◌≡◌, ℕ, List, None, Some, true, map, IfOk, IfErr};
-ghost use Rattle.ioa_log.specs.Failing.{FailedOnceAtMost};
+ghost use Rattle.ioa_device.specs.Failing.{FailedOnceAtMost};
 ghost use Rattle.clap.specs.Words.{Text, subcommand_of, subcommand_rows_of};
 ghost use Rattle.ioa_request.specs.CommandLine.{HasNoFault, IsAsked, IsAskedBy, ioac_app};
 ghost use Rattle.ioac.specs.Commands.{AreWantsOf, IsAnswered, IsAnsweredAs, IsAnsweredOf, IsFinished, IsCommand};
@@ -20,7 +20,7 @@ use crate::tees::Tee;
 use crate::telling::{put, reported};
 use crate::usage::{told, told_unasked};
 use clap::ArgMatches;
-use ioa_log::{Device, InputDevice, OutputDevice};
+use ioa_device::{Device, InputDevice, OutputDevice};
 use ioa_request::{Cut, Request, is_explained, parse, read_cut, read_request};
 use ioa_serving::{AtHand, Failure, Ran, Served, Status, Store, cut_text};
 use std::alloc::Global;

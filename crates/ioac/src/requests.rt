@@ -2,8 +2,8 @@
 
 ghost use Rattle.std.specs.Prelude.{◌≡◌, [], None, IfOk, IfErr, IsErrOf, option_map};
 ghost use Rattle.ioa_system.specs.Outcomes.{ending_of};
-ghost use Rattle.ioa_log.specs.declared.failure.LogErr.{LogErr};
-ghost use Rattle.ioa_log.specs.Failing.{FailedOnceAtMost};
+ghost use Rattle.ioa_device.specs.declared.failure.LogErr.{LogErr};
+ghost use Rattle.ioa_device.specs.Failing.{FailedOnceAtMost};
 ghost use Rattle.ioa_request.specs.declared.request.Request.TheVariants as requests;
 ghost use Rattle.ioa_serving.specs.Devices.{change, files, no_files, read_only, unused};
 ghost use Rattle.ioa_serving.specs.Logs.{found_of};
@@ -12,7 +12,7 @@ ghost use Rattle.ioa_serving.specs.Statuses.{answer_status, ending_status, found
 ghost use Rattle.ioa_serving.specs.declared.failure.Failure.{Failure};
 ghost use Rattle.ioac.specs.Requests.{Fails, Serves};
 
-use ioa_log::{InputDevice, OutputDevice};
+use ioa_device::{InputDevice, OutputDevice};
 use ioa_request::{Request, Selection, Shown, Topic};
 use ioa_serving::explain::explain;
 use ioa_serving::{

@@ -1,14 +1,14 @@
 //! What is told of a request that was served, on standard error.
 
 ghost use Rattle.std.specs.Prelude.{◌≡◌};
-ghost use Rattle.ioa_log.specs.Failing.{FailedOnceAtMost};
+ghost use Rattle.ioa_device.specs.Failing.{FailedOnceAtMost};
 ghost use Rattle.ioac.specs.Commands.{IsFinished};
 ghost use Rattle.ioa_serving.specs.Devices.{change};
 ghost use Rattle.ioa_serving.specs.Serving.{reports_of, wants_of};
 ghost use Rattle.ioa_serving.specs.declared.status.Status.TheVariants as statuses;
 
 use crate::telling::{put_wants, put_with_wants};
-use ioa_log::OutputDevice;
+use ioa_device::OutputDevice;
 use ioa_serving::{Ran, Served, Status};
 
 /// Tells what is left to tell on standard error, of the run's workers too, and answers the exit status, or that of `Unable` where the device failed.

@@ -4,11 +4,11 @@ ghost use Rattle.std.specs.Prelude.{◌≡◌, ◌≤◌, [], None, Some, OnErr,
 ghost use Rattle.std.specs.Option.{option_copied};
 ghost use Rattle.std.specs.Io.KnownBytes.{ReadConsumes};
 ghost use Rattle.std.specs.Io.{ReadsAtMost};
-ghost use Rattle.ioa_log.specs.Counts.{given_after};
-ghost use Rattle.ioa_log.specs.Failing.{FailedOnceAtMost, HasFailed};
+ghost use Rattle.ioa_device.specs.Counts.{given_after};
+ghost use Rattle.ioa_device.specs.Failing.{FailedOnceAtMost, HasFailed};
 ghost use Rattle.ioac.specs.Tees.{IsNoted, kept_of};
 
-use ioa_log::{Device, Failed, InputDevice};
+use ioa_device::{Device, Failed, InputDevice};
 use std::alloc::Global;
 use std::io;
 use std::io::Read;

@@ -3,14 +3,14 @@
 ghost use Rattle.std.specs.Prelude.{◌≡◌, ◌≢◌, ◌≤◌, ◌++◌, ◌∷◌, [], IfOk};
 ghost use Rattle.std.specs.IoError.{error_kind};
 ghost use Rattle.std.specs.String.{string_bytes};
-ghost use Rattle.ioa_log.specs.Failing.{FailedOnceAtMost};
+ghost use Rattle.ioa_device.specs.Failing.{FailedOnceAtMost};
 ghost use Rattle.ioa_serving.specs.Devices.{change};
 ghost use Rattle.ioa_serving.specs.Printed.{failure_text};
 ghost use Rattle.ioa_serving.specs.Serving.{wants_of};
 ghost use Rattle.ioac.specs.Telling.{IsPut, IsReported, IsShort, unreadable_text};
 ghost use Rattle.ioa_serving.specs.declared.status.Status.TheVariants as statuses;
 
-use ioa_log::{OutputDevice, send_all};
+use ioa_device::{OutputDevice, send_all};
 use ioa_serving::{Failure, Ran, Status, send_wants};
 use std::alloc::{AllocError, Global};
 use std::io;

@@ -4,7 +4,7 @@ ghost use Rattle.std.specs.Prelude.{◌≡◌, ◌<◌, length, IfOk};
 ghost use Rattle.std.specs.Option.{option_copied};
 ghost use Rattle.std.specs.String.{string_bytes};
 ghost use Rattle.clap.specs.Words.{found_of, kind_of, rows_of, subcommand_rows_of};
-ghost use Rattle.ioa_log.specs.Failing.{FailedOnceAtMost};
+ghost use Rattle.ioa_device.specs.Failing.{FailedOnceAtMost};
 ghost use Rattle.ioac.specs.Commands.{IsShown, IsUsage, usage_status};
 ghost use Rattle.ioac.specs.Telling as telling;
 ghost use Rattle.ioac.specs.Telling.{IsTold};
@@ -14,7 +14,7 @@ ghost use Rattle.ioa_serving.specs.declared.status.Status.TheVariants as statuse
 use crate::telling::{put, put_short, reported};
 use clap::ArgMatches;
 use clap::error::ErrorKind;
-use ioa_log::{OutputDevice, send_all};
+use ioa_device::{OutputDevice, send_all};
 use ioa_request::{
     Code, asks_seeds, is_given, is_set, mixes_json, read_bound, read_range, read_turns,
 };

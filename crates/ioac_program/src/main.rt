@@ -6,7 +6,7 @@ mod progress;
 
 use crate::files::Files;
 use crate::progress::{Emptying, Metered};
-use ioa_log::Counted;
+use ioa_device::Counted;
 use ioac::command::command;
 use ioac::{Tee, told_unread};
 use std::io::IsTerminal;

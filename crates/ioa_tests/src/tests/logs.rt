@@ -7,10 +7,10 @@ ghost use Rattle.std.specs.String.{string_bytes};
 use crate::tests::made::{Got, Setting, basic, expect_so, expect_text, program, set_up};
 use crate::tests::resumed::TICKED;
 use ioa_compile::Program;
-use ioa_log::{
-    Counted, Device, EntryWriter, LogErr, OutputDevice, hides_actions, log_list, monitor_log,
-    read_log, replay_list, replay_log, write_entries, write_log,
-};
+use ioa_device::{Counted, Device, LogErr, OutputDevice};
+use ioa_inspect::{EntryWriter, monitor_log, write_entries};
+use ioa_log::{log_list, read_log, replay_list, replay_log, write_log};
+use ioa_monitor::hides_actions;
 use ioa_rows::{COUNTER, Dripping, KINDS, Slow};
 use ioa_system::End;
 use ioa_value::{Action, OutOfMemory};

@@ -2,7 +2,8 @@
 
 use crate::tests::made::{self, Got, expect_so};
 use ioa_compile::Program;
-use ioa_log::{Counted, replay_list};
+use ioa_device::Counted;
+use ioa_log::replay_list;
 use ioa_object::{ObjErr, read_object, write_object};
 use ioa_rows::COUNTER;
 use std::alloc::Global;

@@ -7,7 +7,8 @@ use crate::tests::reached::PUTS;
 use crate::tests::rooms::told_outcome;
 use crate::tests::threads::told_reports;
 use ioa_compile::Program;
-use ioa_log::{monitor, replay};
+use ioa_log::replay;
+use ioa_monitor::monitor;
 use ioa_rows::COUNTER;
 use ioa_run::{
     Board, OpenGate, Outcome, Room, RunErr, Seeded, resume_alone, resume_threads, run_alone,
@@ -220,7 +221,15 @@ fn alone(rt: &impl Abort, alloc: Global, setting: &Setting, turns: u64) -> Resul
         log,
         script,
     } = setting;
-    resume_alone(alloc, program, log, turns, words, script)
+    resume_alone(
+        alloc,
+        program,
+        log,
+        turns,
+        words,
+        script,
+        &mut Vec::new(alloc),
+    )
 }
 
 /// The run on threads that goes on from the log.
@@ -236,7 +245,17 @@ fn on_threads<H: Abort + Threads + Wait + Sync>(
         log,
         script,
     } = setting;
-    resume_threads(rt, alloc, program, log, turns, words, script, &OpenGate)
+    resume_threads(
+        rt,
+        alloc,
+        program,
+        log,
+        turns,
+        words,
+        script,
+        &OpenGate,
+        &mut Vec::new(alloc),
+    )
 }
 
 /// The log of what a run gives.
@@ -435,7 +454,16 @@ fn expect_accepted(rt: &impl Abort, alloc: Global, log: &Log) {
 fn first_log<H: Abort + Threads + Wait + Sync>(rt: &H, alloc: Global, setting: &Setting) -> Log {
     let program = &setting.program;
     let words = seeded(rt, alloc, program);
-    let answer = run_threads(rt, alloc, program, 200, words, &[], &OpenGate);
+    let answer = run_threads(
+        rt,
+        alloc,
+        program,
+        200,
+        words,
+        &[],
+        &OpenGate,
+        &mut Vec::new(alloc),
+    );
     log_of(answer.expect(rt, "a run"))
 }
 
@@ -453,7 +481,8 @@ fn a_run_goes_on_from_nothing(rt: HostRuntime) {
     let setting = of_library(&rt, alloc, "AltBit");
     let program = &setting.program;
     let words = seeded(&rt, alloc, program);
-    let first = run_alone(alloc, program, 100, words, &[]).expect(&rt, "a run");
+    let answer = run_alone(alloc, program, 100, words, &[], &mut Vec::new(alloc));
+    let first = answer.expect(&rt, "a run");
     let given = told_outcome(&rt, alloc, program.types(), &first);
     let reports = told_reports(&rt, alloc, &first.reports);
     let second = alone(&rt, alloc, &setting, 100).expect(&rt, "a run");

@@ -523,7 +523,17 @@ fn ran<R: Abort + Threads + Wait + Clock + Sync>(
     } = setting;
     let course = Course::new(rt, alloc, case.holds);
     let words = sources(rt, alloc, program, case, &course);
-    let outcome = run_threads(rt, alloc, program, case.turns, words, script, &course).got(rt);
+    let answer = run_threads(
+        rt,
+        alloc,
+        program,
+        case.turns,
+        words,
+        script,
+        &course,
+        &mut Vec::new(alloc),
+    );
+    let outcome = answer.got(rt);
     let stops = course
         .kept()
         .expect(rt, "each worker is held, and none too long");
@@ -575,8 +585,20 @@ fn ran_alone<R: Abort + Wait + Clock>(
     case: &Case,
 ) -> Outcome {
     let course = Course::new(rt, alloc, case.holds);
-    let words = sources(rt, alloc, &setting.program, case, &course);
-    let answer = run_alone(alloc, &setting.program, case.turns, words, &setting.script);
+    let Setting {
+        program,
+        script,
+        ..
+    } = setting;
+    let words = sources(rt, alloc, program, case, &course);
+    let answer = run_alone(
+        alloc,
+        program,
+        case.turns,
+        words,
+        script,
+        &mut Vec::new(alloc),
+    );
     answer.got(rt)
 }
 

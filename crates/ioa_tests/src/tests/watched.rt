@@ -1,11 +1,12 @@
 //! Streams that are watched.
 
 ghost use Rattle.std.specs.Prelude.{◌≡◌, All, false, true};
-ghost use Rattle.ioa_log.specs.Monitoring.{hides};
+ghost use Rattle.ioa_monitor.specs.Monitoring.{hides};
 
 use crate::tests::made::{Got, action, expect_so, program};
 use ioa_compile::Program;
-use ioa_log::{Counted, LogErr, hides_actions};
+use ioa_device::{Counted, LogErr};
+use ioa_monitor::hides_actions;
 use ioa_rows::COUNTER;
 use ioa_system::End;
 use ioa_value::{Action, OutOfMemory};

@@ -5,7 +5,7 @@ ghost use Rattle.std.specs.Option.{option_copied, option_map};
 ghost use Rattle.ioac.specs.Places as places;
 ghost use Rattle.ioac.specs.Remarks as spec;
 
-use ioa_log::LogErr;
+use ioa_device::LogErr;
 use ioa_request::{Request, Settings, WordsFrom};
 use ioa_serving::Failure;
 use ioa_syntax::Refusal;

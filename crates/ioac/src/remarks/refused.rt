@@ -3,7 +3,7 @@
 ghost use Rattle.std.specs.Prelude.{◌≡◌, ◌++◌, ◌∷◌, ℕ, List, IfOk, OnOk, Some, false, true};
 ghost use Rattle.std.specs.Option.{option_map};
 ghost use Rattle.std.specs.String.{string_bytes};
-ghost use Rattle.ioa_log.specs.declared.failure.LogErr as errors;
+ghost use Rattle.ioa_device.specs.declared.failure.LogErr as errors;
 ghost use Rattle.ioa_request.specs.declared.explanation.Explanation.{Explanation};
 ghost use Rattle.ioa_request.specs.Explained.{explanation_text};
 ghost use Rattle.ioa_serving.specs.declared.failure.Failure as failures;
@@ -26,7 +26,7 @@ use ioa_account::line_of_action;
 use ioa_causes::wording;
 use ioa_causes::words::general;
 use ioa_compile::Program;
-use ioa_log::LogErr;
+use ioa_device::LogErr;
 use ioa_request::explanations::explanation;
 use ioa_request::{Code, Request, Topic};
 use ioa_serving::{Failure, Store, StoreErr};

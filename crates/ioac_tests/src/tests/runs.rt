@@ -1,7 +1,7 @@
 //! Runs: what they print, by their words and their scripts, on one thread and, where that is the same in every schedule, on threads.
 
 use crate::tests::shelf::{COUNTER, Ran, expect_answer, wanted_in, words};
-use ioa_log::Counted;
+use ioa_device::Counted;
 use ioa_rows::{column, columns, is_row};
 use ioac::command::command;
 use ioac::{Store, StoreErr, Tee};
@@ -27,13 +27,20 @@ automaton Go signature output go states n: Int transitions output go eff n := n 
 automaton Pick signature input go states s: S; x: Int transitions input go eff x := at(s, 0) \
 composition Two components G: Go; P: Pick";
 
+/// A component of which one proposal faults, one draws below no number, and one action is enabled once.
+const LOSSES: &str = "\
+type S = seq 1 of Int \
+automaton Pick(n: Int) signature output pick(x: Int); output draw(x: Int); internal count states s: S; c: Int \
+transitions output pick propose x := at(s, 0) output draw propose x := any(n) internal count pre c < 1 eff c := c + 1 \
+composition Nothing components P: Pick(0)";
+
 /// The words after `run f`, the file of words `w`, the script `l`, what is printed, what is told of errors, and the exit status.
 const GAMES: &str = "\
 --alone --turns 3 --words w | 9 17 4^1 2^ |  | roll(5)^roll(0)^tell(0)^tell(0)^end: done after 5^ |  | 0
---alone --turns 3 --words w --reports | 9 17 4^1 2 |  | roll(5)^roll(0)^tell(0)^tell(0)^end: done after 5^ | D: 2 committed, 1 idle, 0 stale, turns done^K: 3 committed, 0 idle, 0 stale, turns done^environment: 0 committed, 3 idle, 0 stale, turns done^ | 0
+--alone --turns 3 --words w --reports | 9 17 4^1 2 |  | roll(5)^roll(0)^tell(0)^tell(0)^end: done after 5^ | D: 2 committed, 1 idle, 0 stale, turns done^K: 3 committed, 0 idle, 0 stale, turns done^environment: 0 committed, 3 idle, 0 stale, turns done^D: roll: 3 tried, 0 nothing proposed, 0 proposal faulted, 1 not enabled, 0 stale, 2 performed^K: tell: 2 tried, 0 nothing proposed, 0 proposal faulted, 0 not enabled, 0 stale, 2 performed^K: clear: 1 tried, 0 nothing proposed, 0 proposal faulted, 0 not enabled, 0 stale, 1 performed^ | 0
 --alone --turns 3 --words w --log | 9 17 4^1 2 |  | {\"act\":\"roll(5)\",\"who\":0}^{\"act\":\"clear\",\"who\":1}^{\"act\":\"roll(0)\",\"who\":0}^{\"act\":\"tell(0)\",\"who\":1}^{\"act\":\"tell(0)\",\"who\":1}^{\"end\":\"done after 5\"}^ |  | 0
---alone --turns 3 --words w --comp Zero --reports | 9 17 4^1 2 |  | tell(0)^tell(0)^end: done after 2^ | D: 0 committed, 3 idle, 0 stale, turns done^K: 2 committed, 1 idle, 0 stale, turns done^environment: 0 committed, 3 idle, 0 stale, turns done^ | 0
---turns 3 --words w --comp Zero --reports | 9 17 4^1 2 |  | tell(0)^tell(0)^end: done after 2^ | D: 0 committed, 3 idle, 0 stale, turns done^K: 2 committed, 1 idle, 0 stale, turns done^environment: 0 committed, 3 idle, 0 stale, turns done^ | 0
+--alone --turns 3 --words w --comp Zero --reports | 9 17 4^1 2 |  | tell(0)^tell(0)^end: done after 2^ | D: 0 committed, 3 idle, 0 stale, turns done^K: 2 committed, 1 idle, 0 stale, turns done^environment: 0 committed, 3 idle, 0 stale, turns done^D: roll: 3 tried, 3 nothing proposed, 0 proposal faulted, 0 not enabled, 0 stale, 0 performed^K: tell: 2 tried, 0 nothing proposed, 0 proposal faulted, 0 not enabled, 0 stale, 2 performed^K: clear: 1 tried, 0 nothing proposed, 0 proposal faulted, 1 not enabled, 0 stale, 0 performed^ | 0
+--turns 3 --words w --comp Zero --reports | 9 17 4^1 2 |  | tell(0)^tell(0)^end: done after 2^ | D: 0 committed, 3 idle, 0 stale, turns done^K: 2 committed, 1 idle, 0 stale, turns done^environment: 0 committed, 3 idle, 0 stale, turns done^D: roll: 3 tried, 3 nothing proposed, 0 proposal faulted, 0 not enabled, 0 stale, 0 performed^K: tell: 2 tried, 0 nothing proposed, 0 proposal faulted, 0 not enabled, 0 stale, 2 performed^K: clear: 1 tried, 0 nothing proposed, 0 proposal faulted, 1 not enabled, 0 stale, 0 performed^ | 0
 -- lines past the components' are not looked at, and words that are used up, or of a line that is missing, are 0
 --alone --turns 3 --words w | 9 17 4^1 2^x |  | roll(5)^roll(0)^tell(0)^tell(0)^end: done after 5^ |  | 0
 --alone --turns 3 --words w |  |  | roll(0)^tell(0)^roll(0)^tell(0)^tell(0)^end: done after 5^ |  | 0
@@ -55,11 +62,13 @@ const GAMES: &str = "\
 /// The same.
 const COUNTS: &str = "\
 --alone --turns 2 --inputs l |  | reset | tick(5)^reset^tick(5)^end: done after 3^ |  | 0
---alone --turns 2 --inputs l --reports |  | % once^^reset^ | tick(5)^reset^tick(5)^end: done after 3^ | A: 2 committed, 0 idle, 0 stale, turns done^environment: 1 committed, 1 idle, 0 stale, turns done^ | 0
+--alone --turns 2 --inputs l --reports |  | % once^^reset^ | tick(5)^reset^tick(5)^end: done after 3^ | A: 2 committed, 0 idle, 0 stale, turns done^environment: 1 committed, 1 idle, 0 stale, turns done^A: tick: 2 tried, 0 nothing proposed, 0 proposal faulted, 0 not enabled, 0 stale, 2 performed^ | 0
+--alone --turns 2 --inputs l --reports |  | reset^reset^% twice^reset^reset^ | tick(5)^reset^tick(5)^reset^end: done after 4^ | A: 2 committed, 0 idle, 0 stale, turns done^environment: 2 committed, 0 idle, 0 stale, turns done^A: tick: 2 tried, 0 nothing proposed, 0 proposal faulted, 0 not enabled, 0 stale, 2 performed^environment: reset was not performed^environment: reset was not performed^ | 0
 --alone --turns 2 --inputs l --log |  | reset | {\"act\":\"tick(5)\",\"who\":0}^{\"act\":\"reset\",\"who\":1}^{\"act\":\"tick(5)\",\"who\":0}^{\"end\":\"done after 3\"}^ |  | 0
 -- how often each entry is performed, by the run's log, behind the reports
 --alone --turns 2 --inputs l --coverage |  | reset | tick(5)^reset^tick(5)^end: done after 3^ | A: tick: performed 2^A: reset: performed 1^ | 0
---alone --turns 2 --inputs l --coverage --reports |  | reset | tick(5)^reset^tick(5)^end: done after 3^ | A: 2 committed, 0 idle, 0 stale, turns done^environment: 1 committed, 1 idle, 0 stale, turns done^A: tick: performed 2^A: reset: performed 1^ | 0
+--alone --turns 2 --inputs l --coverage --reports |  | reset | tick(5)^reset^tick(5)^end: done after 3^ | A: 2 committed, 0 idle, 0 stale, turns done^environment: 1 committed, 1 idle, 0 stale, turns done^A: tick: 2 tried, 0 nothing proposed, 0 proposal faulted, 0 not enabled, 0 stale, 2 performed^A: tick: performed 2^A: reset: performed 1^ | 0
+--alone --turns 1 --inputs l --coverage --reports |  | reset^reset | tick(5)^reset^end: done after 2^ | A: 1 committed, 0 idle, 0 stale, turns done^environment: 1 committed, 0 idle, 0 stale, turns done^A: tick: 1 tried, 0 nothing proposed, 0 proposal faulted, 0 not enabled, 0 stale, 1 performed^environment: reset was not performed^A: tick: performed 1^A: reset: performed 1^ | 0
 --turns 3 --coverage |  |  | tick(5)^tick(6)^tick(7)^end: done after 3^ | A: tick: performed 3^A: reset: never performed^ | 0
 --alone --turns 0 --coverage |  |  | end: done after 0^ | A: tick: never performed^A: reset: never performed^ | 0
 --alone --turns 0 |  |  | end: done after 0^ |  | 0
@@ -73,11 +82,11 @@ const COUNTS: &str = "\
 --alone --turns 18446744073709551615 |  |  |  | N1^ | 2
 --alone --inputs q |  |  |  | io^ | 5
 --turns 3 |  |  | tick(5)^tick(6)^tick(7)^end: done after 3^ |  | 0
---turns 2 --log --reports |  |  | {\"act\":\"tick(5)\",\"who\":0}^{\"act\":\"tick(6)\",\"who\":0}^{\"end\":\"done after 2\"}^ | A: 2 committed, 0 idle, 0 stale, turns done^environment: 0 committed, 2 idle, 0 stale, turns done^ | 0
+--turns 2 --log --reports |  |  | {\"act\":\"tick(5)\",\"who\":0}^{\"act\":\"tick(6)\",\"who\":0}^{\"end\":\"done after 2\"}^ | A: 2 committed, 0 idle, 0 stale, turns done^environment: 0 committed, 2 idle, 0 stale, turns done^A: tick: 2 tried, 0 nothing proposed, 0 proposal faulted, 0 not enabled, 0 stale, 2 performed^ | 0
 --turns 0 --inputs l |  | reset | end: done after 0^ |  | 0
 -- more turns than a run that is given up early takes, and nothing is told of memory
 --alone --turns 64 |  |  | tick(5)^tick(6)^tick(7)^tick(8)^tick(9)^tick(10)^tick(11)^tick(12)^tick(13)^tick(14)^tick(15)^tick(16)^tick(17)^tick(18)^tick(19)^tick(20)^tick(21)^tick(22)^tick(23)^tick(24)^tick(25)^tick(26)^tick(27)^tick(28)^tick(29)^tick(30)^tick(31)^tick(32)^tick(33)^tick(34)^tick(35)^tick(36)^tick(37)^tick(38)^tick(39)^tick(40)^tick(41)^tick(42)^tick(43)^tick(44)^tick(45)^tick(46)^tick(47)^tick(48)^tick(49)^tick(50)^tick(51)^tick(52)^tick(53)^tick(54)^tick(55)^tick(56)^tick(57)^tick(58)^tick(59)^tick(60)^tick(61)^tick(62)^tick(63)^tick(64)^tick(65)^tick(66)^tick(67)^tick(68)^end: done after 64^ |  | 0
---turns 64 --reports |  |  | tick(5)^tick(6)^tick(7)^tick(8)^tick(9)^tick(10)^tick(11)^tick(12)^tick(13)^tick(14)^tick(15)^tick(16)^tick(17)^tick(18)^tick(19)^tick(20)^tick(21)^tick(22)^tick(23)^tick(24)^tick(25)^tick(26)^tick(27)^tick(28)^tick(29)^tick(30)^tick(31)^tick(32)^tick(33)^tick(34)^tick(35)^tick(36)^tick(37)^tick(38)^tick(39)^tick(40)^tick(41)^tick(42)^tick(43)^tick(44)^tick(45)^tick(46)^tick(47)^tick(48)^tick(49)^tick(50)^tick(51)^tick(52)^tick(53)^tick(54)^tick(55)^tick(56)^tick(57)^tick(58)^tick(59)^tick(60)^tick(61)^tick(62)^tick(63)^tick(64)^tick(65)^tick(66)^tick(67)^tick(68)^end: done after 64^ | A: 64 committed, 0 idle, 0 stale, turns done^environment: 0 committed, 64 idle, 0 stale, turns done^ | 0
+--turns 64 --reports |  |  | tick(5)^tick(6)^tick(7)^tick(8)^tick(9)^tick(10)^tick(11)^tick(12)^tick(13)^tick(14)^tick(15)^tick(16)^tick(17)^tick(18)^tick(19)^tick(20)^tick(21)^tick(22)^tick(23)^tick(24)^tick(25)^tick(26)^tick(27)^tick(28)^tick(29)^tick(30)^tick(31)^tick(32)^tick(33)^tick(34)^tick(35)^tick(36)^tick(37)^tick(38)^tick(39)^tick(40)^tick(41)^tick(42)^tick(43)^tick(44)^tick(45)^tick(46)^tick(47)^tick(48)^tick(49)^tick(50)^tick(51)^tick(52)^tick(53)^tick(54)^tick(55)^tick(56)^tick(57)^tick(58)^tick(59)^tick(60)^tick(61)^tick(62)^tick(63)^tick(64)^tick(65)^tick(66)^tick(67)^tick(68)^end: done after 64^ | A: 64 committed, 0 idle, 0 stale, turns done^environment: 0 committed, 64 idle, 0 stale, turns done^A: tick: 64 tried, 0 nothing proposed, 0 proposal faulted, 0 not enabled, 0 stale, 64 performed^ | 0
 --turns 2 --inputs l |  | reset^% no^tick(5) |  | N2 index 1^ | 4
 --turns 100001 --inputs l |  | tick(5) |  | N1^ | 2
 --turns 100001 --inputs l |  | tick( |  | L2 line 1^ | 4
@@ -146,7 +155,7 @@ const FAULTS: &str = "\
 -- the action that faults is not performed
 --alone --turns 1 --coverage |  |  | end: fault 4 in component 1 at 0^ | G: go: never performed^P: go: never performed^ | 3
 --alone --turns 1 --seeds 0..0 --coverage |  |  | 0000000000000000000000000000000000000000000000000000000000000000 end: fault 4 in component 1 at 0^seeds 1; done 0; fault 1^ | G: go: never performed^P: go: never performed^ | 3
---alone --turns 1 --log --reports |  |  | {\"act\":\"go\",\"who\":0}^{\"end\":\"fault 4 in component 1 at 0\"}^ | G: 0 committed, 0 idle, 0 stale, faulted^P: 0 committed, 1 idle, 0 stale, turns done^environment: 0 committed, 1 idle, 0 stale, turns done^ | 3
+--alone --turns 1 --log --reports |  |  | {\"act\":\"go\",\"who\":0}^{\"end\":\"fault 4 in component 1 at 0\"}^ | G: 0 committed, 0 idle, 0 stale, faulted^P: 0 committed, 1 idle, 0 stale, turns done^environment: 0 committed, 1 idle, 0 stale, turns done^G: go: 0 tried, 0 nothing proposed, 0 proposal faulted, 0 not enabled, 0 stale, 0 performed^ | 3
 --alone --turns 1 --seeds 0..1 |  |  | 0000000000000000000000000000000000000000000000000000000000000000 end: fault 4 in component 1 at 0^0000000000000000000000000000000000000000000000000000000000000001 end: fault 4 in component 1 at 0^seeds 2; done 0; fault 2^ |  | 3
 --alone --turns 0 --seeds 3..3 |  |  | 0000000000000000000000000000000000000000000000000000000000000003 end: done after 0^seeds 1; done 1; fault 0^ |  | 0
 -- the action that faults is not performed, and the specification is not asked of it
@@ -158,7 +167,13 @@ const FAULTS: &str = "\
 -- and a fault is no refusal
 --alone --turns 1 --seeds 3..3 --monitor Two --keep k |  |  | 0000000000000000000000000000000000000000000000000000000000000003 end: fault 4 in component 1 at 0; Two: ok^seeds 1; done 0; fault 1; Two: not accepted 0^ |  | 3
 --turns 1 |  |  | end: fault 4 in component 1 at 0^ |  | 3
---turns 1 --log --reports |  |  | {\"act\":\"go\",\"who\":0}^{\"end\":\"fault 4 in component 1 at 0\"}^ | G: 0 committed, 0 idle, 0 stale, faulted^P: 0 committed, 1 idle, 0 stale, turns done^environment: 0 committed, 1 idle, 0 stale, turns done^ | 3
+--turns 1 --log --reports |  |  | {\"act\":\"go\",\"who\":0}^{\"end\":\"fault 4 in component 1 at 0\"}^ | G: 0 committed, 0 idle, 0 stale, faulted^P: 0 committed, 1 idle, 0 stale, turns done^environment: 0 committed, 1 idle, 0 stale, turns done^G: go: 0 tried, 0 nothing proposed, 0 proposal faulted, 0 not enabled, 0 stale, 0 performed^ | 3
+";
+
+/// The same.
+const LOST: &str = "\
+--alone --turns 4 --words w --reports | 3 1 2 2 |  | end: done after 1^ | P: 1 committed, 3 idle, 0 stale, turns done^environment: 0 committed, 4 idle, 0 stale, turns done^P: pick: 1 tried, 0 nothing proposed, 1 proposal faulted, 0 not enabled, 0 stale, 0 performed^P: draw: 1 tried, 1 nothing proposed, 0 proposal faulted, 0 not enabled, 0 stale, 0 performed^P: count: 2 tried, 0 nothing proposed, 0 proposal faulted, 1 not enabled, 0 stale, 1 performed^ | 0
+--turns 4 --words w --reports | 3 1 2 2 |  | end: done after 1^ | P: 1 committed, 3 idle, 0 stale, turns done^environment: 0 committed, 4 idle, 0 stale, turns done^P: pick: 1 tried, 0 nothing proposed, 1 proposal faulted, 0 not enabled, 0 stale, 0 performed^P: draw: 1 tried, 1 nothing proposed, 0 proposal faulted, 0 not enabled, 0 stale, 0 performed^P: count: 2 tried, 0 nothing proposed, 0 proposal faulted, 1 not enabled, 0 stale, 1 performed^ | 0
 ";
 
 /// A component that ticks, and specifications of it: one that accepts each tick, one that accepts two, one in which each faults, and one of which not all
@@ -379,6 +394,7 @@ fn runs_print_what_is_wanted(rt: HostRuntime) {
     expect_runs(&rt, rt.alloc(), GAMES, GAME);
     expect_runs(&rt, rt.alloc(), COUNTS, COUNTER);
     expect_runs(&rt, rt.alloc(), FAULTS, FAULTY);
+    expect_runs(&rt, rt.alloc(), LOST, LOSSES);
     expect_runs(&rt, rt.alloc(), LOOPS, FOLD);
     expect_runs(&rt, rt.alloc(), MONITORED, TICKS);
     expect_runs(&rt, rt.alloc(), INSPECTED, KEEPS);

@@ -1,6 +1,6 @@
 //! The program in memory: its files and devices, and one loop over a table of rows.
 
-use ioa_log::{Counted, InputDevice, OutputDevice};
+use ioa_device::{Counted, InputDevice, OutputDevice};
 pub use ioa_rows::COUNTER;
 use ioa_rows::{column, columns, is_row};
 use ioac::command::command;

@@ -1,7 +1,7 @@
 //! Devices that fail at any of their calls, or are full.
 
 use crate::tests::shelf::{COUNTER, Given, REPLAY, Ran, run_on};
-use ioa_log::{Counted, Device};
+use ioa_device::{Counted, Device};
 use ioa_rows::{Dripping, KINDS, Slow};
 use ioac::{Status, Tee};
 use std::alloc::Global;

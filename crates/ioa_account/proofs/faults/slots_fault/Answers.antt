@@ -5,7 +5,7 @@ use Rattle.ioa_value.proofs.ItemLemmas.{at_map}
 use Rattle.ioa_node.specs.Nodes.{Node}
 use Rattle.ioa_compose.specs.Held.{composed_of}
 use Rattle.ioa_system.specs.Systems.{values_of}
-use Rattle.ioa_log.specs.Breaking.{IsState}
+use Rattle.ioa_inspect.specs.Breaking.{IsState}
 use Rattle.ioa_account.specs.Faults.{fault_at, state_fault}
 use Rattle.ioa_account.proofs.Faulting.{on_answer, state_at}
 use Rattle.ioa_account.proofs.faults.slots_fault.Goals as goal

@@ -10,8 +10,8 @@ use Rattle.ioa_tree.specs.Compositions.{Member}
 use Rattle.ioa_compose.specs.Faults.{condition_fault}
 use Rattle.ioa_compose.specs.declared.member.Member as held
 use Rattle.ioa_compose.specs.Held.{composed_of, member_of}
-use Rattle.ioa_log.specs.Breaking.{IsState}
-use Rattle.ioa_log.proofs.Breaking.{question, state_there, values_enough, values_first}
+use Rattle.ioa_inspect.specs.Breaking.{IsState}
+use Rattle.ioa_inspect.proofs.Breaking.{question, state_there, values_enough, values_first}
 use Rattle.ioa_account.proofs.Faulting.{is_its, is_of_another, on_answer, over_types}
 use Rattle.ioa_account.proofs.faults.state_fault.Goals as goal
 

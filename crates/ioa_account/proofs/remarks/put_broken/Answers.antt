@@ -3,7 +3,7 @@ use Rattle.ioa_value.specs.Actions.{act_of}
 use Rattle.ioa_tree.specs.Likes.{AllRelated}
 use Rattle.ioa_compose.specs.Simulates.{SlotsHoldAt}
 use Rattle.ioa_system.specs.Systems.{values_of}
-use Rattle.ioa_log.specs.Breaking.{AreStates, broken_of}
+use Rattle.ioa_inspect.specs.Breaking.{AreStates, broken_of}
 use Rattle.ioa_compose.specs.Held.{composed_of}
 use Rattle.ioa_account.specs.Accounts.{name_at}
 use Rattle.ioa_account.specs.Remarks.{broken_after, broken_fault, broken_state, invariant_text, states_before}

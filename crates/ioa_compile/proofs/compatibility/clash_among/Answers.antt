@@ -1,5 +1,5 @@
 use Rattle.std.proofs.Common.{map, ap, ◌∙◌}
-use Rattle.ioa_compose.specs.Clashes.{signature_of}
+use Rattle.ioa_clash.specs.Clashes.{signature_of}
 use Rattle.ioa_compile.specs.Shown.{member_code}
 use Rattle.ioa_compile.proofs.Clashing.{all_signatures, exact_by, first_told}
 use Rattle.ioa_compile.proofs.compatibility.clash_among.Goals as goal

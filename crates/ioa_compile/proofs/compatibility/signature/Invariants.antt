@@ -1,5 +1,5 @@
 use Rattle.std.proofs.Common.{◌≡◌, map, take}
-use Rattle.ioa_compose.specs.Clashes.{signed_of}
+use Rattle.ioa_clash.specs.Clashes.{signed_of}
 use Rattle.ioa_compile.specs.Clashes.{signed_entry}
 use Rattle.ioa_compile.specs.Shown.{entry_code}
 use Rattle.ioa_compile.proofs.compatibility.signature.Given as goal

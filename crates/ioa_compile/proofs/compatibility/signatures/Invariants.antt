@@ -1,5 +1,5 @@
 use Rattle.std.proofs.Common.{◌≡◌, map, take}
-use Rattle.ioa_compose.specs.Clashes.{signature_of}
+use Rattle.ioa_clash.specs.Clashes.{signature_of}
 use Rattle.ioa_compile.specs.Clashes.{signature_in}
 use Rattle.ioa_compile.specs.Shown.{member_code}
 use Rattle.ioa_compile.proofs.compatibility.signatures.Given as goal

@@ -15,7 +15,8 @@ use Rattle.ioa_tree.specs.Tree.{EntryTree, TransitionTree}
 use Rattle.ioa_tree.specs.View.{entry_of, transition_of, automaton_of}
 use Rattle.ioa_tree.specs.WellFormed.{variable_fields, is_input}
 use Rattle.ioa_compose.specs.declared.member.Member as held
-use Rattle.ioa_compose.specs.Fine.{IsFine, component_limits}
+use Rattle.ioa_compose.specs.Fine.{IsFine}
+use Rattle.ioa_crash.specs.Limits.{component_limits}
 use Rattle.ioa_compose.specs.Held.{member_of}
 use Rattle.ioa_compile.specs.Shown.{entry_code}
 use Rattle.ioa_compile.specs.Scopes.{Scope, scope_of, scope_of_proposals, IsScope, IsKnownGuard, AreKnownProposals, AreKnown}

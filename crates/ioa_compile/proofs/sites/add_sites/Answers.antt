@@ -3,8 +3,8 @@ use Rattle.std.specs.String.{string_bytes}
 use Rattle.std.proofs.Math.ListN.{get_or-map}
 use Rattle.std.proofs.lemmas.List.{length-map}
 use Rattle.ioa_value.specs.Actions.{Name}
-use Rattle.ioa_compose.specs.Index.{named_among, under}
-use Rattle.ioa_compose.proofs.IndexLemmas.{one-more, all-added}
+use Rattle.ioa_clash.specs.Index.{named_among, under}
+use Rattle.ioa_clash.proofs.IndexLemmas.{one-more, all-added}
 use Rattle.ioa_compile.specs.declared.sites.Site.{Site}
 use Rattle.ioa_compile.specs.Programs.{EntryCode}
 use Rattle.ioa_compile.specs.Shown.{entry_code}

@@ -1,7 +1,7 @@
 use Rattle.std.proofs.Common.{map, ◌++◌}
 use Rattle.std.specs.String.{string_bytes}
-use Rattle.ioa_compose.specs.Index.{named_among, under}
-use Rattle.ioa_compose.proofs.IndexLemmas.{LeavesFrom}
+use Rattle.ioa_clash.specs.Index.{named_among, under}
+use Rattle.ioa_clash.proofs.IndexLemmas.{LeavesFrom}
 use Rattle.ioa_compile.specs.Shown.{entry_code}
 use Rattle.ioa_compile.specs.Sites.{code_name, site_of}
 use Rattle.ioa_compile.proofs.sites.add_sites.Given as goal

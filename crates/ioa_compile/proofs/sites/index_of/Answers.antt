@@ -2,8 +2,8 @@ use Rattle.std.proofs.Common.{◌≡◌, ℕ, List, map, get_or, ap, subst, sym,
 use Rattle.std.specs.String.{string_bytes}
 use Rattle.std.proofs.Math.ListN.{get_or-map}
 use Rattle.std.proofs.lemmas.List.{length-map}
-use Rattle.ioa_compose.specs.Index.{AddsAll}
-use Rattle.ioa_compose.proofs.IndexLemmas.{next, all-indexed}
+use Rattle.ioa_clash.specs.Index.{AddsAll}
+use Rattle.ioa_clash.proofs.IndexLemmas.{next, all-indexed}
 use Rattle.ioa_compile.specs.declared.sites.Site.{Site}
 use Rattle.ioa_compile.specs.Programs.{EntryCode, MemberCode}
 use Rattle.ioa_compile.specs.Shown.{entry_code, member_code}

@@ -4,7 +4,7 @@ use Rattle.ioa_value.proofs.ItemLemmas.{at_map}
 use Rattle.ioa_compose.specs.Bindings.{Binds}
 use Rattle.ioa_compose.proofs.BindingLemmas.{ready-at, unbound-in}
 use Rattle.ioa_compose.proofs.FineLemmas.{bound-before}
-use Rattle.ioa_compose.proofs.SignatureLemmas.{zip-more}
+use Rattle.ioa_clash.proofs.ZipLemmas.{zip-more}
 use Rattle.ioa_compose.proofs.binding.bind_all.Goals as goal
 
 pub bind-requires-clause-ready : goal.bind-requires-clause-ready

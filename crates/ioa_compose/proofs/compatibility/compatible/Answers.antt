@@ -1,7 +1,7 @@
 use Rattle.std.proofs.Common.{map, refl, sym, ap, ◌∙◌}
-use Rattle.ioa_compose.specs.Clashes.{SignedEntry, signature_of}
-use Rattle.ioa_compose.proofs.ClashLemmas.{found-clash, stands-at}
-use Rattle.ioa_compose.proofs.SearchLemmas.{one-entry}
+use Rattle.ioa_clash.specs.Clashes.{SignedEntry, signature_of}
+use Rattle.ioa_clash.proofs.ClashLemmas.{found-clash, stands-at}
+use Rattle.ioa_clash.proofs.SearchLemmas.{one-entry}
 use Rattle.ioa_compose.proofs.SignedLemmas.{signed-lent, all-signatures, none-clash-by, clashes-by}
 use Rattle.ioa_compose.proofs.compatibility.compatible.Goals as goal
 

@@ -8,7 +8,7 @@ use Rattle.ioa_tree.specs.Domains.{AreDomainsOf}
 use Rattle.ioa_tree.specs.WellFormed.{position_fine, formals}
 use Rattle.ioa_compose.specs.Bindings.{instance_with}
 use Rattle.ioa_compose.specs.Signatures.{domains_in}
-use Rattle.ioa_compose.proofs.SignatureLemmas.{zip-push}
+use Rattle.ioa_clash.proofs.ZipLemmas.{zip-push}
 use Rattle.ioa_compose.proofs.domains.all_positions.Goals as goal
 
 pub positions-requires-clause-fine : goal.positions-requires-clause-fine

@@ -7,7 +7,7 @@ use Rattle.ioa_tree.specs.Instances.{field_names}
 use Rattle.ioa_tree.specs.WellFormed.{constant_fine, context_of}
 use Rattle.ioa_tree.proofs.Starts.{suits_of_fit}
 use Rattle.ioa_compose.proofs.EvaluateLemmas.{name_known}
-use Rattle.ioa_compose.proofs.SignatureLemmas.{there}
+use Rattle.ioa_clash.proofs.ZipLemmas.{there}
 use Rattle.ioa_compose.proofs.domains.constant_value.Goals as goal
 
 pub constant-requires : goal.constant-requires

@@ -8,7 +8,7 @@ use Rattle.ioa_tree.specs.View.{automaton_of, position_of}
 use Rattle.ioa_tree.specs.Domains.{IsDomainOf}
 use Rattle.ioa_tree.specs.WellFormed.{position_fine, formals}
 use Rattle.ioa_compose.specs.Bindings.{instance_with}
-use Rattle.ioa_compose.proofs.SignatureLemmas.{zip-push}
+use Rattle.ioa_clash.proofs.ZipLemmas.{zip-push}
 use Rattle.ioa_compose.proofs.domains.positions.Goals as goal
 
 pub known-requires-clause-fine : goal.known-requires-clause-fine

@@ -7,7 +7,7 @@ use Rattle.ioa_tree.specs.View.{name_of}
 use Rattle.ioa_tree.specs.Compositions.{is_output_of}
 use Rattle.ioa_compose.specs.Bindings.{plain_in}
 use Rattle.ioa_compose.specs.Refusals.{IsFirstUnknown}
-use Rattle.ioa_compose.proofs.SearchLemmas.{one-more}
+use Rattle.ioa_clash.proofs.SearchLemmas.{one-more}
 use Rattle.ioa_value.proofs.ItemLemmas.{at_map, map_push}
 use Rattle.ioa_compose.proofs.hidden.hidden_outputs.Goals as goal
 

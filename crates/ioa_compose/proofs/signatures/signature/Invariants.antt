@@ -1,6 +1,6 @@
 use Rattle.std.proofs.Common.{◌≡◌, map, take}
 use Rattle.ioa_tree.specs.View.{entry_of}
-use Rattle.ioa_compose.specs.Clashes.{signed_of}
+use Rattle.ioa_clash.specs.Clashes.{signed_of}
 use Rattle.ioa_compose.specs.Signatures.{domains_in, signed_entries}
 use Rattle.ioa_compose.proofs.signatures.signature.Given as goal
 

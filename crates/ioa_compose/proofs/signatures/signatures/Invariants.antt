@@ -1,5 +1,5 @@
 use Rattle.std.proofs.Common.{◌≡◌, map, take}
-use Rattle.ioa_compose.specs.Clashes.{signature_of}
+use Rattle.ioa_clash.specs.Clashes.{signature_of}
 use Rattle.ioa_compose.specs.Signatures.{signature_in}
 use Rattle.ioa_compose.proofs.signatures.signatures.Given as goal
 

@@ -3,7 +3,7 @@ use Rattle.std.proofs.lemmas.List.{length-map}
 use Rattle.ioa_value.specs.Plain.{plain}
 use Rattle.ioa_tree.specs.View.{name_of, automaton_of, variable_of}
 use Rattle.ioa_compose.specs.Bindings.{crash_in}
-use Rattle.ioa_compose.specs.Rewriting.{added_arguments}
+use Rattle.ioa_crash.specs.Rewriting.{added_arguments}
 use Rattle.ioa_compose.proofs.StartLemmas.{member-made}
 use Rattle.ioa_compose.proofs.starts.member.Goals as goal
 

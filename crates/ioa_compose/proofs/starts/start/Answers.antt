@@ -3,7 +3,7 @@ use Rattle.ioa_value.specs.Plain.{plain}
 use Rattle.ioa_tree.specs.View.{variable_of}
 use Rattle.ioa_tree.specs.Instances.{start_value, formal_values}
 use Rattle.ioa_compose.specs.Bindings.{plain_in, values_in}
-use Rattle.ioa_compose.proofs.RewrittenNames.{values_length}
+use Rattle.ioa_crash.proofs.RewrittenNames.{values_length}
 use Rattle.ioa_compose.proofs.StartLemmas.{started-long}
 use Rattle.ioa_compose.proofs.starts.start.Goals as goal
 

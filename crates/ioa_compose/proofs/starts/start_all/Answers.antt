@@ -8,7 +8,7 @@ use Rattle.ioa_compose.specs.declared.member.Member as held
 use Rattle.ioa_compose.specs.Bindings.{instance_in, IsOwn, IsStarted}
 use Rattle.ioa_compose.specs.Held.{member_of, KeepsPositions}
 use Rattle.ioa_compose.proofs.BindingLemmas.{startable-at, faults-in}
-use Rattle.ioa_compose.proofs.SignatureLemmas.{zip-append}
+use Rattle.ioa_clash.proofs.ZipLemmas.{zip-append}
 use Rattle.ioa_compose.proofs.StartLemmas.{taken, as_many, none_left, none-faulted}
 use Rattle.ioa_compose.proofs.starts.start_all.Goals as goal
 

@@ -1,7 +1,7 @@
 use Rattle.std.proofs.Common.{Vec, Global, ap, ◌∙◌, arith}
 use Rattle.ioa_value.specs.declared.value.Value.{Value}
 use Rattle.ioa_tree.specs.declared.tree.Variable.{Variable}
-use Rattle.ioa_compose.proofs.RewritingLemmas.{value_more, value_same, item_read}
+use Rattle.ioa_crash.proofs.RewritingLemmas.{value_more, value_same, item_read}
 use Rattle.ioa_compose.proofs.starts.with_resets.Goals as goal
 use Rattle.ioa_compose.proofs.starts.with_resets.Goals.{then-not-variables-i+in_ok-try_copy+in_ok-push, else-not-variables-i}
 

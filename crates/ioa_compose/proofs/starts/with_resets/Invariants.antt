@@ -1,7 +1,7 @@
 use Rattle.std.proofs.Common.{◌≡◌, ◌++◌, map, drop, length}
 use Rattle.ioa_value.specs.Plain.{plain}
 use Rattle.ioa_tree.specs.View.{variable_of}
-use Rattle.ioa_compose.specs.Rewriting.{volatile_values}
+use Rattle.ioa_crash.specs.Rewriting.{volatile_values}
 use Rattle.ioa_compose.proofs.starts.with_resets.Given as goal
 
 abbrev pub invariant-loop-i : goal.invariant-loop-i

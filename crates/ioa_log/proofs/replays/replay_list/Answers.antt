@@ -1,24 +1,20 @@
-use Rattle.ioa_log.proofs.Hosting.{hosts_begin, replay_hosts}
-use Rattle.ioa_log.proofs.Replaying.{begun_sources, sources}
+use Rattle.std.proofs.Common.{inr, subst, take}
+use Rattle.std.specs.Io.KnownBytes.{Appends}
+use Rattle.std.proofs.lemmas.Option.{IfSome_then}
+use Rattle.ioa_log.proofs.Replaying.{list_begun, list_written}
 use Rattle.ioa_log.proofs.replays.replay_list.Goals as goal
 
-pub returns-clause-source : goal.returns-clause-source
-returns-clause-source g c = sources c.args.program.now c.replay_table.result (g.R.Read.remaining c.args.input.now) (g.W.Write.contents c.args.output.now) (g.W.Write.contents c.replay_table.new.output) c.replay_table.ensures.ok
-
-pub returns-clause-hosts : goal.returns-clause-hosts
-returns-clause-hosts g c =
-    let known = g.R.Read.remaining c.args.input.now in
+pub returns-in_err-send_all-clause-begun : goal.returns-in_err-send_all-clause-begun
+returns-in_err-send_all-clause-begun g c = λ e.
+    let begun = c.in_err-send_all.ensures.begun in
     let before = g.W.Write.contents c.args.output.now in
-    let after = g.W.Write.contents c.replay_table.new.output in
-    replay_hosts c.args.program.now c.replay_table.result known before after (sources c.args.program.now c.replay_table.result known before after c.replay_table.ensures.ok)
+    let after = g.W.Write.contents c.send_all.new.output in
+    inr (λ s runs. IfSome_then (g.R.Read.remaining c.args.input.now) (c.in_ok-replayed.ensures.ok s runs)
+    (λ bytes k. list_begun c.args.program.now s bytes c.in_ok-replayed.replayed before after k begun.0 (subst (λ t. Appends before after (take begun.0 t)) c.as_bytes.ensures.value begun.1)))
 
-pub returns-clause-begun_source : goal.returns-clause-begun_source
-returns-clause-begun_source g c =
-    λ e d m. begun_sources c.args.program.now d (g.R.Read.remaining c.args.input.now) (g.W.Write.contents c.args.output.now) (g.W.Write.contents c.replay_table.new.output) m (c.replay_table.ensures.begun e)
-
-pub returns-clause-begun_hosts : goal.returns-clause-begun_hosts
-returns-clause-begun_hosts g c = λ e h d s m.
-    let known = g.R.Read.remaining c.args.input.now in
+pub returns-clause-ok : goal.returns-clause-ok
+returns-clause-ok g c = λ s runs.
     let before = g.W.Write.contents c.args.output.now in
-    let after = g.W.Write.contents c.replay_table.new.output in
-    hosts_begin h d s known before after (begun_sources c.args.program.now d known before after m (c.replay_table.ensures.begun e))
+    let after = g.W.Write.contents c.send_all.new.output in
+    IfSome_then (g.R.Read.remaining c.args.input.now) (c.in_ok-replayed.ensures.ok s runs)
+    (λ bytes k. list_written c.args.program.now s bytes c.in_ok-replayed.replayed before after k (subst (λ t. Appends before after t) c.as_bytes.ensures.value c.in_ok-send_all.ensures.ok))

@@ -6,7 +6,7 @@ use Rattle.ioa_value.specs.Table.{contains}
 use Rattle.ioa_value.specs.Typing.{own}
 use Rattle.ioa_value.proofs.TypingLemmas.{HaveTypes-from_own}
 use Rattle.ioa_node.specs.Nodes.{Node}
-use Rattle.ioa_compose.specs.Fine.{component_limits}
+use Rattle.ioa_crash.specs.Limits.{component_limits}
 use Rattle.ioa_compile.specs.Programs.{MemberCode}
 use Rattle.ioa_compile.specs.Shown.{entry_code, member_code}
 use Rattle.ioa_object.specs.Reading.{component_at}
@@ -14,7 +14,7 @@ use Rattle.ioa_object.proofs.Entries.{values_format}
 use Rattle.ioa_object.proofs.Formats.{yielded}
 use Rattle.ioa_object.proofs.Names.{named_alike}
 use Rattle.ioa_object.proofs.PartFormats.{own_types}
-use Rattle.ioa_object.proofs.Readers.{reads_err, then_err, then_ok, name_free, name_taken}
+use Rattle.ioa_bytes.proofs.Readers.{reads_err, then_err, then_ok, name_free, name_taken}
 use Rattle.ioa_object.proofs.Texts.{name_format}
 use Rattle.ioa_object.proofs.components.component.Goals as goal
 

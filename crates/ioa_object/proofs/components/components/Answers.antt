@@ -2,7 +2,7 @@ use Rattle.std.proofs.Common.{map, ap}
 use Rattle.ioa_compile.specs.Shown.{member_code}
 use Rattle.ioa_value.specs.declared.limits.TheConstants.{LIMITS as most}
 use Rattle.ioa_object.specs.Reading.{component_at}
-use Rattle.ioa_object.proofs.Readers.{seen_more, amid_fails, amid_more, amid_done, list_begun, list_fails}
+use Rattle.ioa_bytes.proofs.Readers.{seen_more, amid_fails, amid_more, amid_done, list_begun, list_fails}
 use Rattle.ioa_object.proofs.components.components.Goals as goal
 
 pub returns-in_err-count : goal.returns-in_err-count

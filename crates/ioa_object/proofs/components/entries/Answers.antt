@@ -1,9 +1,9 @@
 use Rattle.std.proofs.Common.{map, ap}
 use Rattle.ioa_compile.specs.Shown.{entry_code}
 use Rattle.ioa_value.specs.Plain.{number}
-use Rattle.ioa_compose.specs.Fine.{component_limits}
+use Rattle.ioa_crash.specs.Limits.{component_limits}
 use Rattle.ioa_object.specs.Reading.{entry_at}
-use Rattle.ioa_object.proofs.Readers.{seen_more, amid_fails, amid_more, amid_done, list_begun, list_fails}
+use Rattle.ioa_bytes.proofs.Readers.{seen_more, amid_fails, amid_more, amid_done, list_begun, list_fails}
 use Rattle.ioa_object.proofs.components.entries.Goals as goal
 
 pub returns-in_err-count : goal.returns-in_err-count

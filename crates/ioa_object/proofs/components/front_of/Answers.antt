@@ -8,7 +8,7 @@ use Rattle.ioa_object.proofs.Entries.{opening_format}
 use Rattle.ioa_object.proofs.Formats.{yielded}
 use Rattle.ioa_object.proofs.Names.{named_alike}
 use Rattle.ioa_object.proofs.PartFormats.{own_types}
-use Rattle.ioa_object.proofs.Readers.{reads_err, then_err, then_ok, name_free, name_taken}
+use Rattle.ioa_bytes.proofs.Readers.{reads_err, then_err, then_ok, name_free, name_taken}
 use Rattle.ioa_object.proofs.components.front_of.Goals as goal
 
 pub returns-then-is_named-clause-read : goal.returns-then-is_named-clause-read

@@ -2,7 +2,7 @@ use Rattle.std.proofs.Common.{map, ap}
 use Rattle.ioa_value.specs.Positions.{domain_of}
 use Rattle.ioa_value.specs.declared.limits.TheConstants.{LIMITS as most}
 use Rattle.ioa_object.specs.Reading.{position_at}
-use Rattle.ioa_object.proofs.Readers.{seen_more, amid_fails, amid_more, amid_done, list_begun, list_fails}
+use Rattle.ioa_bytes.proofs.Readers.{seen_more, amid_fails, amid_more, amid_done, list_begun, list_fails}
 use Rattle.ioa_object.proofs.components.positions.Goals as goal
 
 pub returns-in_err-count : goal.returns-in_err-count

@@ -1,7 +1,8 @@
 use Rattle.std.proofs.Common.{◌≡◌, ◌-◌, map}
 use Rattle.ioa_value.specs.Positions.{domain_of}
 use Rattle.ioa_value.specs.declared.limits.TheConstants.{LIMITS as most}
-use Rattle.ioa_object.specs.Reading.{list_at, items_at, position_at}
+use Rattle.ioa_bytes.specs.Items.{list_at, items_at}
+use Rattle.ioa_object.specs.Reading.{position_at}
 use Rattle.ioa_object.proofs.components.positions.Given as goal
 
 abbrev pub invariant-loop : goal.invariant-loop

@@ -1,6 +1,6 @@
 use Rattle.std.proofs.Common.{arith, ◌∙◌}
 use Rattle.ioa_object.specs.Reading.{instr_at}
-use Rattle.ioa_object.proofs.Readers.{amid_fails, amid_more, amid_done}
+use Rattle.ioa_bytes.proofs.Readers.{amid_fails, amid_more, amid_done}
 use Rattle.ioa_object.proofs.parts.instructions.Goals as goal
 
 pub returns-in_err-instruction-clause-read : goal.returns-in_err-instruction-clause-read

@@ -1,5 +1,6 @@
 use Rattle.std.proofs.Common.{◌≡◌, ◌-◌, ◌<◌}
-use Rattle.ioa_object.specs.Reading.{instrs_at, instr_at, items_at}
+use Rattle.ioa_object.specs.Reading.{instrs_at, instr_at}
+use Rattle.ioa_bytes.specs.Items.{items_at}
 use Rattle.ioa_object.proofs.parts.instructions.Given as goal
 
 abbrev pub invariant-loop : goal.invariant-loop

@@ -3,8 +3,9 @@ use Rattle.ioa_value.specs.Plain.{number, plain}
 use Rattle.ioa_code.specs.Parts.{IsVerified}
 use Rattle.ioa_code.specs.Valid.{Part}
 use Rattle.ioa_code.proofs.Judged.{exact}
-use Rattle.ioa_object.specs.Reading.{part_at, part_of, verified, counted}
-use Rattle.ioa_object.proofs.Readers.{then_ok}
+use Rattle.ioa_object.specs.Reading.{part_at, part_of, verified}
+use Rattle.ioa_bytes.specs.Items.{counted}
+use Rattle.ioa_bytes.proofs.Readers.{then_ok}
 use Rattle.ioa_object.proofs.parts.part.Goals as goal
 
 pub count_part-requires : goal.count_part-requires

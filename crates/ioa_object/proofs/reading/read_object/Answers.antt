@@ -3,15 +3,16 @@ use Rattle.std.specs.List.{list_any}
 use Rattle.std.proofs.lemmas.Bool.{false≢true}
 use Rattle.std.proofs.lemmas.List.{nil_from_length}
 use Rattle.ioa_tree.specs.Components.{Compatible}
-use Rattle.ioa_compose.proofs.CompatibleLemmas.{first-incompatible}
+use Rattle.ioa_clash.proofs.CompatibleLemmas.{first-incompatible}
 use Rattle.ioa_compile.specs.Given.{prog_of, IsNoProgram}
 use Rattle.ioa_compile.specs.Shown.{member_code}
 use Rattle.ioa_compile.specs.declared.tables.TableErr.TheVariants.{Table, Clash}
 use Rattle.ioa_compile.specs.Tables.{tabled}
-use Rattle.ioa_object.specs.Reading.{Fails, byte_at, tables_at, read}
+use Rattle.ioa_bytes.specs.Items.{Fails, byte_at}
+use Rattle.ioa_object.specs.Reading.{tables_at, read}
 use Rattle.ioa_object.specs.Spelling.{mark}
 use Rattle.ioa_object.specs.Versions.{member_loops, is_needless, version_byte, version_of}
-use Rattle.ioa_object.specs.declared.failure.ObjErr.TheVariants as errors
+use Rattle.ioa_bytes.specs.declared.failure.ObjErr.TheVariants as errors
 use Rattle.ioa_object.proofs.Refused.{no_mark, was_read}
 use Rattle.ioa_object.proofs.Exits.{Answers, marked_spot, are_bytes, passed_on, no_version, wrong_version, behind_version, version_there, answers_error, answers_failed, answers_memory, answers_ok, answers_needless, answers_trailing, answers_clash}
 use Rattle.ioa_object.proofs.reading.read_object.Goals.{In-Some, In_ok-tables}

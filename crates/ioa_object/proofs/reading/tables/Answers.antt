@@ -5,9 +5,10 @@ use Rattle.ioa_value.specs.declared.limits.TheConstants.{LIMITS}
 use Rattle.ioa_compile.specs.Given.{prog_of}
 use Rattle.ioa_compile.specs.Programs.{MemberCode, Prog}
 use Rattle.ioa_compile.specs.Shown.{member_code}
-use Rattle.ioa_object.specs.Reading.{Outcome, ◌>>=◌, Fails, types_at, name_at, list_at, component_at, hidden_at, program_of, tables_at}
-use Rattle.ioa_object.specs.Spots.{Spot}
-use Rattle.ioa_object.proofs.Readers.{reads_err, then_err, then_ok}
+use Rattle.ioa_bytes.specs.Items.{Outcome, ◌>>=◌, Fails, name_at, list_at}
+use Rattle.ioa_object.specs.Reading.{types_at, component_at, hidden_at, program_of, tables_at}
+use Rattle.ioa_bytes.specs.Spots.{Spot}
+use Rattle.ioa_bytes.proofs.Readers.{reads_err, then_err, then_ok}
 use Rattle.ioa_object.proofs.reading.tables.Goals as goal
 
 -- ---- what is read behind the types, behind the name, and behind the components

@@ -3,8 +3,8 @@ use Rattle.std.specs.String.{string_bytes}
 use Rattle.ioa_value.specs.Actions.{Name}
 use Rattle.ioa_value.specs.Table.{contains}
 use Rattle.ioa_value.specs.declared.limits.TheConstants.{LIMITS as most}
-use Rattle.ioa_object.specs.Reading.{Reader, name_at}
-use Rattle.ioa_object.proofs.Readers.{seen_more, amid_fails, amid_more, amid_done, list_begun, list_fails}
+use Rattle.ioa_bytes.specs.Items.{Reader, name_at}
+use Rattle.ioa_bytes.proofs.Readers.{seen_more, amid_fails, amid_more, amid_done, list_begun, list_fails}
 use Rattle.ioa_object.proofs.types.constants.Goals as goal
 
 abbrev item : List Name → List Name → Reader Name

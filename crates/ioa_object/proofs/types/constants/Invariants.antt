@@ -2,7 +2,7 @@ use Rattle.std.proofs.Common.{◌≡◌, ◌-◌, ◌++◌, map}
 use Rattle.std.specs.String.{string_bytes}
 use Rattle.ioa_value.specs.Table.{contains}
 use Rattle.ioa_value.specs.declared.limits.TheConstants.{LIMITS as most}
-use Rattle.ioa_object.specs.Reading.{list_at, items_at, name_at}
+use Rattle.ioa_bytes.specs.Items.{list_at, items_at, name_at}
 use Rattle.ioa_object.proofs.types.constants.Given as goal
 
 abbrev pub invariant-loop : goal.invariant-loop

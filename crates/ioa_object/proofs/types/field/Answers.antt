@@ -1,9 +1,10 @@
 use Rattle.std.proofs.Common.{Ok, map, sym, ap, ◌∙◌}
 use Rattle.ioa_value.specs.Shapes.{tuple_field}
 use Rattle.ioa_value.specs.Table.{contains, field_names}
-use Rattle.ioa_object.specs.Reading.{field_at, type_at}
+use Rattle.ioa_object.specs.Reading.{field_at}
+use Rattle.ioa_bytes.specs.Items.{type_at}
 use Rattle.ioa_object.proofs.Names.{named_alike}
-use Rattle.ioa_object.proofs.Readers.{reads_err, then_err, then_ok, name_free, name_taken}
+use Rattle.ioa_bytes.proofs.Readers.{reads_err, then_err, then_ok, name_free, name_taken}
 use Rattle.ioa_object.proofs.types.field.Goals as goal
 
 pub returns-then-is_named : goal.returns-then-is_named

@@ -2,7 +2,7 @@ use Rattle.std.proofs.Common.{map, ap}
 use Rattle.ioa_value.specs.Shapes.{tuple_field}
 use Rattle.ioa_value.specs.declared.limits.TheConstants.{LIMITS as most}
 use Rattle.ioa_object.specs.Reading.{field_at}
-use Rattle.ioa_object.proofs.Readers.{seen_more, amid_fails, amid_more, amid_done, list_begun, list_fails}
+use Rattle.ioa_bytes.proofs.Readers.{seen_more, amid_fails, amid_more, amid_done, list_begun, list_fails}
 use Rattle.ioa_object.proofs.types.fields.Goals as goal
 
 pub returns-in_err-length : goal.returns-in_err-length

@@ -1,7 +1,8 @@
 use Rattle.std.proofs.Common.{◌≡◌, ◌-◌, map}
 use Rattle.ioa_value.specs.Shapes.{tuple_field}
 use Rattle.ioa_value.specs.declared.limits.TheConstants.{LIMITS as most}
-use Rattle.ioa_object.specs.Reading.{list_at, items_at, field_at}
+use Rattle.ioa_bytes.specs.Items.{list_at, items_at}
+use Rattle.ioa_object.specs.Reading.{field_at}
 use Rattle.ioa_object.proofs.types.fields.Given as goal
 
 abbrev pub invariant-loop : goal.invariant-loop

@@ -1,7 +1,7 @@
 use Rattle.std.proofs.Common.{not, ap, ◌∙◌}
 use Rattle.ioa_value.specs.Table.{contains}
 use Rattle.ioa_object.proofs.Names.{was_taken}
-use Rattle.ioa_object.proofs.Readers.{name_free, name_taken}
+use Rattle.ioa_bytes.proofs.Readers.{name_free, name_taken}
 use Rattle.ioa_object.proofs.types.new_name.Goals as goal
 
 pub returns-then-branch-clause-read : goal.returns-then-branch-clause-read

@@ -2,7 +2,7 @@ use Rattle.std.proofs.Common.{◌<◌, ◌⊎◌, inl, inr, ◌++◌, ◌∷◌,
 use Rattle.ioa_value.specs.Shapes.{shape}
 use Rattle.ioa_value.specs.Table.{MayFollow}
 use Rattle.ioa_object.proofs.Declaring.{no_tag, wrong_tag, no_name, no_form, too_wide, whole, stands, follows}
-use Rattle.ioa_object.proofs.Readers.{reads_err, built_err, built_ok}
+use Rattle.ioa_bytes.proofs.Readers.{reads_err, built_err, built_ok}
 use Rattle.ioa_object.proofs.types.one_more.Goals as goal
 
 pub returns-in_err-tag-clause-read : goal.returns-in_err-tag-clause-read

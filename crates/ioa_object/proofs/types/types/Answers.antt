@@ -3,7 +3,7 @@ use Rattle.std.proofs.lemmas.List.{length-append}
 use Rattle.ioa_object.specs.Reading.{declaration_at}
 use Rattle.ioa_object.proofs.Formats.{yielded}
 use Rattle.ioa_object.proofs.TypeFormats.{types_format}
-use Rattle.ioa_object.proofs.Readers.{fails_on, built_failed, built_was, amid_fails, amid_more, amid_done}
+use Rattle.ioa_bytes.proofs.Readers.{fails_on, built_failed, built_was, amid_fails, amid_more, amid_done}
 use Rattle.ioa_object.proofs.types.types.Goals as goal
 
 pub returns-in_err-declarations-2-clause-read : goal.returns-in_err-declarations-2-clause-read

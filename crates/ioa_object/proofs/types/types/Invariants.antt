@@ -1,6 +1,7 @@
 use Rattle.std.proofs.Common.{◌≡◌, ◌+◌, ◌-◌, length}
 use Rattle.ioa_value.specs.Table.{all_names}
-use Rattle.ioa_object.specs.Reading.{types_at, items_at, declaration_at}
+use Rattle.ioa_object.specs.Reading.{types_at, declaration_at}
+use Rattle.ioa_bytes.specs.Items.{items_at}
 use Rattle.ioa_object.proofs.types.types.Given as goal
 
 abbrev pub invariant-loop : goal.invariant-loop

@@ -15,9 +15,9 @@ use Rattle.ioa_compile.specs.declared.table.Member.{Member}
 use Rattle.ioa_system.specs.Systems.{slot_types, types_of}
 use Rattle.ioa_system.proofs.Readying.{same_length}
 use Rattle.ioa_run.specs.Choices.{AreOfState, Chooses}
-use Rattle.ioa_run.specs.ProgramBoards.{ProgramBoard}
+use Rattle.ioa_board.specs.ProgramBoards.{ProgramBoard}
 use Rattle.ioa_run.specs.Turning.{Wishes}
-use Rattle.ioa_run.proofs.Numbers.{got}
+use Rattle.ioa_board.proofs.Numbers.{got}
 use Rattle.ioa_run.proofs.Wishing.{component_wishes, environment_wishes, over_state}
 use Rattle.ioa_run.proofs.alone.wish.Given.{Over}
 use Rattle.ioa_run.proofs.alone.wish.Goals as goal
@@ -29,49 +29,53 @@ program_is g c = c.program.ensures ∙ ap (λ (b : ProgramBoard). b.program) c.b
 members_are : (g : Over) (c : After-members-members g) → map member_code c.members-members.result.now ≡ c.args.room.now.program.members
 members_are g c = c.members-members.ensures.value ∙ ap (λ (p : Prog). p.members) (program_is g c)
 
-member_there : (g : Over) (c : After-index-words-who g) → slice_get c.args.room.now.program.members c.args.who ≡ Some (member_code c.index-members-who.result)
-member_there g c =
-    subst (λ (ms : List MemberCode). slice_get ms c.args.who ≡ Some (member_code c.index-members-who.result)) (members_are g (goal.at.choose-requires g c).After-members-members)
+member_there : (g : Over) (c : After-index-words-who g) → map member_code c.members-members.result.now ≡ c.args.room.now.program.members → slice_get c.args.room.now.program.members c.args.who ≡ Some (member_code c.index-members-who.result)
+member_there g c members =
+    subst (λ (ms : List MemberCode). slice_get ms c.args.who ≡ Some (member_code c.index-members-who.result)) members
     (at_map member_code c.members-members.result.now c.args.who c.index-members-who.result (search rules) c.index-members-who.is)
 
-inside : (g : Over) (c : After-index-words-who g) → c.args.who < length c.args.room.now.program.members
-inside g c =
-    let many : length (map member_code c.members-members.result.now) ≡ length c.args.room.now.program.members = ap length (members_are g (goal.at.choose-requires g c).After-members-members) in
+inside : (g : Over) (c : After-index-words-who g) → map member_code c.members-members.result.now ≡ c.args.room.now.program.members → c.args.who < length c.args.room.now.program.members
+inside g c members =
+    let many : length (map member_code c.members-members.result.now) ≡ length c.args.room.now.program.members = ap length members in
     omega (arith, many, length-map c.members-members.result.now member_code, c.if-who-members.true)
 
 entries_are : (g : Over) (c : After-index-words-who g) → c.deref.result.now ≡ c.index-members-who.result.entries.items
 entries_are g c = c.deref.ensures.value ∙ sym (ap (λ (m : Member). m.entries.items) c.index-members-who.is)
 
-state_there : (g : Over) (c : After-index-words-who g) → slice_get c.states.result.now c.args.who ≡ Some c.index-states-who.result
-state_there g c =
+state_there : (g : Over) (c : After-index-words-who g) → map member_code c.members-members.result.now ≡ c.args.room.now.program.members → slice_get c.states.result.now c.args.who ≡ Some c.index-states-who.result
+state_there g c members =
     let types : types_of c.states.result.now ≡ slot_types c.args.room.now.program.members = c.states.ensures.types ∙ ap (λ (b : ProgramBoard). slot_types b.program.members) c.board-then-who-members.ensures.value in
     let many : length c.states.result.now ≡ length c.args.room.now.program.members = same_length c.args.room.now.program.members c.states.result.now types in
-    got c.states.result.now c.args.who c.index-states-who.result (omega (arith, many, inside g c)) c.index-states-who.is
+    got c.states.result.now c.args.who c.index-states-who.result (omega (arith, many, inside g c members)) c.index-states-who.is
 
 pub choose-requires : goal.choose-requires
 choose-requires g c =
-    subst (λ (es : List Entry). AreOfState c.index-states-who.result (map entry_code es)) (sym (entries_are g c))
+    let at = (goal.at.choose-requires g c).After-index-words-who in
+    let start = (goal.at.choose-requires g c).After-members-members in
+    let members = members_are g start in
+    subst (λ (es : List Entry). AreOfState c.index-states-who.result (map entry_code es)) (sym (entries_are g at))
     (over_state c.args.room.now.program c.states.result.now c.args.who c.index-states-who.result (member_code c.index-members-who.result)
-    (subst IsProgram (program_is g (goal.at.choose-requires g c).After-members-members) c.members-members.ensures.sound)
+    (subst IsProgram (program_is g start) c.members-members.ensures.sound)
     (c.states.ensures.types ∙ ap (λ (b : ProgramBoard). slot_types b.program.members) c.board-then-who-members.ensures.value)
-    (state_there g c) (member_there g c))
+    (state_there g at members) (member_there g at members))
 
 pub returns-in_ok-action : goal.returns-in_ok-action
 returns-in_ok-action g c =
     let at = (goal.at.returns-in_ok-action g c).After-index-words-who in
+    let members = members_are g (goal.at.returns-in_ok-action g c).After-members-members in
     let stream = g.W.Words.stream in
     component_wishes c.args.room.now (map stream c.args.words.now) _ c.args.who (member_code c.index-members-who.result) c.index-states-who.result.values
     (stream c.index-words-who.result) (stream c.choose.new.words) (option_map act_of c.in_ok-action.action)
-    (member_there g at)
+    (member_there g at members)
     (subst (λ (ss : List (List Val)). slice_get ss c.args.who ≡ Some c.index-states-who.result.values)
     (c.states.ensures.values ∙ ap (λ (b : ProgramBoard). b.board.states) c.board-then-who-members.ensures.value)
-    (image_at (λ (n : Node). n.values) c.states.result.now c.args.who c.index-states-who.result (state_there g at)))
-    (image_at stream c.args.words.now c.args.who c.index-words-who.result (got c.args.words.now c.args.who c.index-words-who.result (omega (arith, inside g at, c.requires.words)) c.index-words-who.is))
+    (image_at (λ (n : Node). n.values) c.states.result.now c.args.who c.index-states-who.result (state_there g at members)))
+    (image_at stream c.args.words.now c.args.who c.index-words-who.result (got c.args.words.now c.args.who c.index-words-who.result (omega (arith, inside g at members, c.requires.words)) c.index-words-who.is))
     (map-set stream c.args.words.now c.args.who c.choose.new.words)
     (subst (λ (es : List Entry). Chooses (map entry_code es) c.index-states-who.result.values (stream c.index-words-who.result) (option_map act_of c.in_ok-action.action) (stream c.choose.new.words))
     (entries_are g at)
     (subst (λ x. Chooses (map entry_code c.deref.result.now) c.index-states-who.result.values (stream x) (option_map act_of c.in_ok-action.action) (stream c.choose.new.words)) (sym c.index-words-who.is)
-    c.in_ok-action.ensures))
+    c.in_ok-action.ensures.chosen))
 
 pub returns-else-who-members : goal.returns-else-who-members
 returns-else-who-members g c =

@@ -3,7 +3,7 @@ use Rattle.std.proofs.lemmas.List.{length-map}
 use Rattle.ioa_value.specs.Actions.{act_of}
 use Rattle.ioa_value.proofs.ItemLemmas.{at_map}
 use Rattle.ioa_compile.specs.Tables.{tabled}
-use Rattle.ioa_run.specs.Alone.{IsInput}
+use Rattle.ioa_board.specs.ProgramRooms.{IsInput}
 use Rattle.ioa_run.proofs.Ending.{all_before, before_more, first_other}
 use Rattle.ioa_run.proofs.beginning.check.Goals as goal
 

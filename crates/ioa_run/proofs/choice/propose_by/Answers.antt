@@ -1,36 +1,66 @@
-use Rattle.std.proofs.Common.{◌≡◌, ◌∙◌, List, Some, ap, map, sym, subst, rules}
+use Rattle.std.proofs.Common.{◌≡◌, ◌∙◌, List, Option, Some, ap, subst, sym}
 use Rattle.std.specs.Option.{option_map}
-use Rattle.std.specs.String.{string_bytes}
-use Rattle.ioa_value.specs.Actions.{Act, Name, act_of}
-use Rattle.ioa_value.specs.Plain.{Val, plain}
-use Rattle.ioa_value.specs.Positions.{domain_of}
-use Rattle.ioa_node.specs.Proposals.{values_in}
+use Rattle.ioa_value.specs.Plain.{Val}
+use Rattle.ioa_code.specs.Valid.{Part}
+use Rattle.ioa_node.specs.declared.proposal.Proposal.{Proposal}
+use Rattle.ioa_node.specs.Faulting.{has_faulted, proposal_faults, values_given}
+use Rattle.ioa_node.specs.Proposals.{proposal_of}
+use Rattle.ioa_tree.specs.Proposing.{Words}
 use Rattle.ioa_compile.specs.Programs.{EntryCode}
 use Rattle.ioa_compile.specs.Shown.{entry_code}
 use Rattle.ioa_run.specs.Choices.{GivesAction}
-use Rattle.ioa_run.specs.Proposers.{action_with, filled}
+use Rattle.ioa_run.specs.Proposers.{action_with}
+use Rattle.ioa_run.specs.Tallies.{lost_by, lost_from}
 use Rattle.ioa_run.proofs.Choosing.{gives_by}
+use Rattle.ioa_run.proofs.choice.propose_by.Given.{Over}
 use Rattle.ioa_run.proofs.choice.propose_by.Goals as goal
+use Rattle.ioa_run.proofs.choice.propose_by.Goals.{In_ok-values}
 
-pub returns-in_default-2 : goal.returns-in_default-2
-returns-in_default-2 g c =
+-- what the entry's code gives, as the proposal tells
+given : (g : Over) (c : In_ok-values g) (p : Proposal) → c.in_ok-values.field-0 ≡ p
+    → GivesAction (entry_code c.args.entry.now) c.args.state.now.values (g.W.Words.stream c.args.words.now) (option_map (action_with (entry_code c.args.entry.now)) (values_given p)) (g.W.Words.stream c.proposal_with.new.words)
+given g c p is =
     let e : EntryCode = entry_code c.args.entry.now in
     let words = g.W.Words.stream c.args.words.now in
-    let rest = g.W.Words.stream c.propose_with.new.words in
-    subst (λ o. GivesAction e c.args.state.now.values words (option_map (action_with e) (option_map values_in o)) rest) c.in_default-2.is
-    (gives_by e c.in-Some.code c.args.state.now.values words rest (option_map values_in c.in_ok-values.field-0) c.in-Some.is c.in_ok-values.ensures.value c.in_ok-values.ensures.left)
+    let rest = g.W.Words.stream c.proposal_with.new.words in
+    subst (λ q. GivesAction e c.args.state.now.values words (option_map (action_with e) (values_given q)) rest) is
+    (gives_by e c.in-Some.code c.args.state.now.values words rest (values_given c.in_ok-values.field-0) c.in-Some.is c.in_ok-values.ensures.value c.in_ok-values.ensures.left)
 
-pub returns : goal.returns
-returns g c =
+-- why it is idle, as the proposal tells
+lost_told : (part : Part) (s : List Val) (words : Words) (o : Option Part) (p : Proposal) → o ≡ Some part → has_faulted p ≡ proposal_faults part s words → values_given p ≡ proposal_of part s words
+    → lost_from (has_faulted p) (values_given p) ≡ lost_by o s words
+lost_told part s words o p code why value =
+    ap (λ b. lost_from b (values_given p)) why ∙ ap (lost_from (proposal_faults part s words)) value ∙ ap (λ x. lost_by x s words) (sym code)
+
+lost : (g : Over) (c : In_ok-values g) (p : Proposal) → c.in_ok-values.field-0 ≡ p
+    → lost_from (has_faulted p) (values_given p) ≡ lost_by (entry_code c.args.entry.now).propose c.args.state.now.values (g.W.Words.stream c.args.words.now)
+lost g c p is =
+    let q = c.in_ok-values.field-0 in
+    ap (λ x. lost_from (has_faulted x) (values_given x)) (sym is)
+    ∙ lost_told c.in-Some.code c.args.state.now.values (g.W.Words.stream c.args.words.now) (entry_code c.args.entry.now).propose q c.in-Some.is c.in_ok-values.ensures.why c.in_ok-values.ensures.value
+
+pub returns-in_ok-action-in-Values-clause-gives : goal.returns-in_ok-action-in-Values-clause-gives
+returns-in_ok-action-in-Values-clause-gives g c =
+    let a = (goal.at.returns-in_ok-action-in-Values-clause-gives g c).In_ok-values in
     let e : EntryCode = entry_code c.args.entry.now in
-    let words = g.W.Words.stream c.args.words.now in
-    let rest = g.W.Words.stream c.propose_with.new.words in
-    let made : Name → List Val → Act = λ n vs. record { name = n; vals = vs } in
-    let name : string_bytes c.in_ok-clone.field-0 ≡ string_bytes c.args.entry.now.name = search rules in
-    let vals : map plain c.in_ok-fill.field-0.items ≡ filled (map domain_of c.args.entry.now.positions.items) (map plain c.in-Some-2.values.items) =
-    c.in_ok-fill.ensures ∙ ap (λ ps. filled (map domain_of ps) (map plain c.in-Some-2.values.items)) c.deref.ensures.value in
-    let action : act_of (record { name = c.in_ok-clone.field-0; vals = c.in_ok-fill.field-0 }) ≡ action_with e (values_in c.in-Some-2.values) =
-    ap (λ n. made n (map plain c.in_ok-fill.field-0.items)) name ∙ ap (made (string_bytes c.args.entry.now.name)) vals in
-    subst (λ a. GivesAction e c.args.state.now.values words (Some a) rest) (sym action)
-    (subst (λ o. GivesAction e c.args.state.now.values words (option_map (action_with e) (option_map values_in o)) rest) c.in-Some-2.is
-    (gives_by e c.in-Some.code c.args.state.now.values words rest (option_map values_in c.in_ok-values.field-0) c.in-Some.is c.in_ok-values.ensures.value c.in_ok-values.ensures.left))
+    subst (λ x. GivesAction e c.args.state.now.values (g.W.Words.stream c.args.words.now) (Some x) (g.W.Words.stream c.proposal_with.new.words)) (sym c.in_ok-action-in-Values.ensures)
+    (given g a (Proposal.Values c.in-Values.values) c.in-Values.is)
+
+pub returns-in_ok-action-in-Values-clause-lost : goal.returns-in_ok-action-in-Values-clause-lost
+returns-in_ok-action-in-Values-clause-lost g c = λ ok. lost g (goal.at.returns-in_ok-action-in-Values-clause-lost g c).In_ok-values (Proposal.Values c.in-Values.values) c.in-Values.is
+
+pub returns-in-Nothing-clause-gives : goal.returns-in-Nothing-clause-gives
+returns-in-Nothing-clause-gives g c = given g (goal.at.returns-in-Nothing-clause-gives g c).In_ok-values Proposal.Nothing c.in-Nothing.is
+
+pub returns-in-Nothing-clause-lost : goal.returns-in-Nothing-clause-lost
+returns-in-Nothing-clause-lost g c = λ ok. lost g (goal.at.returns-in-Nothing-clause-lost g c).In_ok-values Proposal.Nothing c.in-Nothing.is
+
+pub returns-in-Faulted-clause-gives : goal.returns-in-Faulted-clause-gives
+returns-in-Faulted-clause-gives g c = given g (goal.at.returns-in-Faulted-clause-gives g c).In_ok-values Proposal.Faulted c.in-Faulted.is
+
+pub returns-in-Faulted-clause-lost : goal.returns-in-Faulted-clause-lost
+returns-in-Faulted-clause-lost g c = λ ok. lost g (goal.at.returns-in-Faulted-clause-lost g c).In_ok-values Proposal.Faulted c.in-Faulted.is
+
+-- an entry without code for its proposal gives nothing
+pub returns-in_default-clause-lost : goal.returns-in_default-clause-lost
+returns-in_default-clause-lost g c = λ ok. ap (λ o. lost_by o c.args.state.now.values (g.W.Words.stream c.args.words.now)) (sym c.in_default.is)

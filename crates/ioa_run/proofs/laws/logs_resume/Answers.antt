@@ -1,6 +1,6 @@
 use Rattle.ioa_run.proofs.Playing.{plays_go_on}
 use Rattle.ioa_run.proofs.Resumed.{logs_resume, nothing_resumes}
-use Rattle.ioa_run.proofs.Since.{count_since}
+use Rattle.ioa_board.proofs.Since.{count_since}
 use Rattle.ioa_run.proofs.Subjects.{same_resumption}
 use Rattle.ioa_run.proofs.Unresumed.{logs_are_refused}
 use Rattle.ioa_run.proofs.laws.logs_resume.Goals as goal

@@ -1,7 +1,7 @@
 use Rattle.std.proofs.Common.{◌≡◌, ◌∙◌, ◌++◌, ◌∷◌, ◌+◌, [], List, map, take, sym, ap, subst, rules}
 use Rattle.std.proofs.lemmas.List.{map-append}
 use Rattle.ioa_value.proofs.ItemLemmas.{take_item}
-use Rattle.ioa_run.specs.declared.answer.Answer.{Answer}
+use Rattle.ioa_board.specs.declared.answer.Answer.{Answer}
 use Rattle.ioa_run.specs.ProgramSchedules.{IsPlay, event_of}
 use Rattle.ioa_run.specs.Schedules as machine
 use Rattle.ioa_run.proofs.Scheduling.{play_more}

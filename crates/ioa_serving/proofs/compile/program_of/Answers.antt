@@ -1,6 +1,6 @@
 use Rattle.std.proofs.Common.{◌∙◌, inl, refl, sym}
 use Rattle.std.proofs.lemmas.Result.{IfErr-weaker, IfOk-weaker, err_from_is_err_and}
-use Rattle.ioa_serving.specs.Subjects.{of_hosts, of_table}
+use Rattle.ioa_compile.specs.Subjects.{of_hosts, of_table}
 use Rattle.ioa_serving.proofs.Refused.{err_so}
 use Rattle.ioa_serving.proofs.compile.program_of.Goals as goal
 

@@ -7,7 +7,6 @@ use Rattle.ioa_log.specs.LogTexts.{ReadsLog}
 use Rattle.ioa_serving.specs.declared.at_hand.AtHand.{AtHand}
 use Rattle.ioa_serving.proofs.Covering.{covers_log, none_failed}
 use Rattle.ioa_serving.proofs.Refused.{err_as, err_so}
-use Rattle.ioa_serving.proofs.Subjects.{as_compiled, no_log_as, runs_as}
 use Rattle.ioa_serving.proofs.covered.covered_log.Goals as goal
 
 pub returns-in_err-replayed-clause-refused : goal.returns-in_err-replayed-clause-refused
@@ -16,13 +15,11 @@ returns-in_err-replayed-clause-refused c =
     let x = c.in_err-replayed.field-0.0 in
     let same = ap (λ (h : AtHand). h.rest.now) c.new-at_hand.ensures in
     err_so c.from_residual.result e.0 x _ e.1 e.2
-    (λ s runs. no_log_as s c.args.bytes.now x
-    (subst (λ (b : List ℕ). IsNoLog (as_compiled s) b x) same (c.in_err-replayed.ensures.subjects_refused (as_compiled s) (runs_as c.args.program.now s runs))))
+    (λ s runs. subst (λ (b : List ℕ). IsNoLog s b x) same (c.in_err-replayed.ensures.refused s runs))
 
 pub returns-clause-ok : goal.returns-clause-ok
 returns-clause-ok c = λ s runs.
     let same = ap (λ (h : AtHand). h.rest.now) c.new-at_hand.ensures in
     let reads = subst (λ (ts : Table). ReadsLog ts c.args.bytes.now (logged c.in_ok-log.log)) c.types.ensures.value c.in_ok-log.ensures in
     covers_log c.args.program.now c.types.ensures.sound.types c.args.bytes.now c.in_ok-replayed.replayed c.in_ok-log.log reads _ _ c.performed_entries.ensures c.in_ok-told.ensures.table s runs
-    (subst (λ (b : List ℕ). IsReplayedAs c.args.program.now (as_compiled s) b c.in_ok-replayed.replayed) same
-    (c.in_ok-replayed.ensures.subjects (as_compiled s) (runs_as c.args.program.now s runs)))
+    (subst (λ (b : List ℕ). IsReplayedAs c.args.program.now s b c.in_ok-replayed.replayed) same (c.in_ok-replayed.ensures.ok s runs))

@@ -1,7 +1,7 @@
 use Rattle.std.proofs.Common.{◌≡◌, ap, subst, ◌∙◌, take}
 use Rattle.std.proofs.lemmas.Result.{err_from_is_err_and}
 use Rattle.std.specs.Io.KnownBytes.{Appends}
-use Rattle.ioa_log.specs.declared.failure.LogErr.{LogErr}
+use Rattle.ioa_device.specs.declared.failure.LogErr.{LogErr}
 use Rattle.ioa_dump.specs.Dumps.{dump}
 use Rattle.ioa_serving.specs.declared.failure.Failure.{Failure}
 use Rattle.ioa_serving.proofs.Refused.{err_so}

@@ -5,8 +5,8 @@ use Rattle.ioa_compile.specs.Programs.{Prog}
 use Rattle.ioa_compile.specs.Tables.{start_states, tabled}
 use Rattle.ioa_system.specs.declared.log.LogEntry.{LogEntry}
 use Rattle.ioa_system.specs.Logs.{logged}
-use Rattle.ioa_log.specs.Monitoring.{monitored, monitored_from}
-use Rattle.ioa_log.proofs.Monitored.{by_answer, monitored_next}
+use Rattle.ioa_monitor.specs.Monitoring.{monitored, monitored_from}
+use Rattle.ioa_monitor.proofs.Monitored.{by_answer, monitored_next}
 use Rattle.ioa_serving.specs.Logs.{performed_in}
 use Rattle.ioa_serving.proofs.Judging.{all_heard, passed, performed_at}
 use Rattle.ioa_serving.proofs.judged.answer_of.Goals as goal

@@ -1,7 +1,7 @@
 use Rattle.std.proofs.Common.{◌≡◌, drop}
 use Rattle.ioa_compile.specs.Tables.{start_states, tabled}
 use Rattle.ioa_system.specs.Logs.{logged}
-use Rattle.ioa_log.specs.Monitoring.{monitored, monitored_from}
+use Rattle.ioa_monitor.specs.Monitoring.{monitored, monitored_from}
 use Rattle.ioa_serving.specs.Logs.{performed_in}
 use Rattle.ioa_serving.proofs.judged.answer_of.Given as goal
 

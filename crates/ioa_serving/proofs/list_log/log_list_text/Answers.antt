@@ -1,15 +1,12 @@
 use Rattle.std.specs.Option.{option_copied}
-use Rattle.std.proofs.Common.{◌⊎◌, IfSome}
-use Rattle.std.specs.Io.KnownBytes.{Keeps}
+use Rattle.std.proofs.Common.{◌⊎◌, inl, inr}
 use Rattle.std.proofs.lemmas.Option.{IfSome_then}
 use Rattle.std.proofs.lemmas.Result.{err_from_is_err_and}
-use Rattle.ioa_system.specs.Outcomes.{ending_of}
-use Rattle.ioa_log.specs.Failing.{HasFailed}
-use Rattle.ioa_log.specs.RunLogs.{BeginsRunLog, WritesRunLog}
+use Rattle.ioa_compile.proofs.Subjects.{does_as}
+use Rattle.ioa_device.specs.Failing.{HasFailed}
+use Rattle.ioa_log.specs.RunLogs.{BeginsRunLog}
 use Rattle.ioa_serving.specs.ListLogs.{BeginsListLogOf}
-use Rattle.ioa_serving.specs.Subjects.{its_components, its_starts, its_types}
 use Rattle.ioa_serving.proofs.Refused.{err_so, kept, list_failed, list_ungiven, list_unwritten}
-use Rattle.ioa_serving.proofs.Subjects.{of_both, types_as}
 use Rattle.ioa_serving.proofs.Kept.{keeps_same}
 use Rattle.ioa_serving.proofs.list_log.log_list_text.Goals as goal
 
@@ -32,11 +29,7 @@ returns-in_err-program-clause-unwritten g c =
 pub returns-clause-logs : goal.returns-clause-logs
 returns-clause-logs g c =
     let of = c.in_ok-program.ensures.gives in
-    let both = of_both c.in_ok-program.program of.0
-    (λ s. IfSome (g.R.Read.remaining c.args.input.now) (λ xs. WritesRunLog (its_types s) (its_components s) (its_starts s) xs (ending_of c.in_ok-end.end)
-    (g.W.Write.contents c.args.output.now) (g.W.Write.contents c.log_list.new.output)))
-    of.2 c.in_ok-end.ensures.ok c.in_ok-end.ensures.hosts in
-    IfSome_then (g.R.Read.remaining c.args.input.now) both (λ xs r. (of.0, of.1, r))
+    IfSome_then (g.R.Read.remaining c.args.input.now) (c.in_ok-end.ensures.ok of.0 of.2) (λ xs r. (of.0, of.1, r))
 
 pub returns-in_err-end-clause-refused : goal.returns-in_err-end-clause-refused
 returns-in_err-end-clause-refused g c =
@@ -44,7 +37,7 @@ returns-in_err-end-clause-refused g c =
     let x = c.in_err-end.field-0.0 in
     let of = c.in_ok-program.ensures.gives in
     err_so c.from_residual-in_err-end.result e.0 _ _ e.1 e.2
-    (list_failed c.args.text.now (option_copied c.args.composition) _ _ of.0 c.in_ok-program.program.types x of.1 (types_as c.in_ok-program.program of.0 of.2)
+    (list_failed c.args.text.now (option_copied c.args.composition) _ _ of.0 c.in_ok-program.program.types x of.1 (does_as c.in_ok-program.program of.0 of.2).types
     c.in_err-end.ensures.only c.in_err-end.ensures.bad c.in_err-end.ensures.io)
 
 pub returns-in_err-end-clause-unwritten : goal.returns-in_err-end-clause-unwritten
@@ -56,8 +49,9 @@ returns-in_err-end-clause-unwritten g c =
     let after = g.W.Write.contents c.log_list.new.output in
     err_so c.from_residual-in_err-end.result e.0 _ _ e.1 e.2
     (list_unwritten c.args.text.now (option_copied c.args.composition) (g.R.Read.remaining c.args.input.now) before after
-    (λ b a s xs. BeginsRunLog (its_types s) (its_components s) (its_starts s) xs b a) of.0 x of.1 c.in_err-end.ensures.only
+    (λ b a s xs. BeginsRunLog s xs b a) of.0 x of.1 c.in_err-end.ensures.only
     c.in_err-end.ensures.unwritten c.in_err-end.ensures.memory
-    (λ io. of_both c.in_ok-program.program of.0
-    (λ s. Keeps before after ⊎ IfSome (g.R.Read.remaining c.args.input.now) (λ xs. BeginsRunLog (its_types s) (its_components s) (its_starts s) xs before after))
-    of.2 (c.in_err-end.ensures.begun io) (c.in_err-end.ensures.begun_hosts io)))
+    (λ io. elim (c.in_err-end.ensures.begun io) [
+      | inl k ↦ inl k
+      | inr k ↦ inr (k of.0 of.2)
+    ]))

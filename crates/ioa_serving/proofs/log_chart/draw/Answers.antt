@@ -3,34 +3,30 @@ use Rattle.std.specs.List.{flat_map}
 use Rattle.std.proofs.lemmas.Option.{IfSome_then}
 use Rattle.std.proofs.lemmas.Result.{err_from_is_err_and}
 use Rattle.ioa_compile.specs.Tables.{tabled}
-use Rattle.ioa_system.specs.Outcomes.{ending_of}
 use Rattle.ioa_picture.specs.Charts.{end_within, front, kept_lines, lines_within, names_of}
 use Rattle.ioa_picture.specs.Lines.{numbered}
 use Rattle.ioa_serving.specs.Pictures.{framed, selected}
 use Rattle.ioa_serving.proofs.Pictured.{drawn_as, framed_apart}
-use Rattle.ioa_serving.proofs.Subjects.{as_compiled, entries_as, no_log_as, runs_as}
 use Rattle.ioa_serving.proofs.log_chart.draw.Goals as goal
 
 pub returns-in_err-end-clause-refused : goal.returns-in_err-end-clause-refused
 returns-in_err-end-clause-refused g c =
     let same = err_from_is_err_and c.from_residual.result c.from_residual.ensures.1 in
-    rw (same.1, same.2) (λ s runs.
-    IfSome_then (g.R.Read.remaining c.args.input.now) (c.in_err-end.ensures.refused (as_compiled s) (runs_as c.args.program.now s runs)) (λ xs k. no_log_as s xs c.in_err-end.field-0.0 k))
+    rw (same.1, same.2) c.in_err-end.ensures.refused
 
 pub returns-clause-ok : goal.returns-clause-ok
 returns-clause-ok g c = λ s runs.
-    IfSome_then (g.R.Read.remaining c.args.input.now) (c.in_ok-end.ensures.ok (as_compiled s) (runs_as c.args.program.now s runs)) (λ xs k.
+    IfSome_then (g.R.Read.remaining c.args.input.now) (c.in_ok-end.ensures.ok s runs) (λ xs k.
     let p = c.args.program.now in
     let selection = selected c.args.selection.now in
-    let e = entries_as s xs (ending_of c.in_ok-end.end) _ _ _ k in
-    let kept = framed_apart (kept_lines selection.without p.types (tabled p)) c.write_entries.new.writer.chart e.0.entries
-    (e.4 ∙ ap (λ ks. flat_map framed ks ++ flat_map (λ x. framed (kept_lines selection.without p.types (tabled p) x)) e.0.entries) c.start-chart.ensures) in
+    let kept = framed_apart (kept_lines selection.without p.types (tabled p)) c.write_entries.new.writer.chart k.log.entries
+    (k.written ∙ ap (λ ks. flat_map framed ks ++ flat_map (λ x. framed (kept_lines selection.without p.types (tabled p) x)) k.log.entries) c.start-chart.ensures) in
     record {
-      log = e.0;
-      is_log = e.1;
-      ending = e.3;
+      log = k.log;
+      is_log = k.is_log;
+      ending = k.ending;
       text =
           c.in_ok-text.ensures
-          ∙ sym (ap (λ end. front (names_of p) ++ (numbered (lines_within selection.from selection.to) 0 c.write_entries.new.writer.chart ++ end_within selection.to (length c.write_entries.new.writer.chart) end)) e.2)
-          ∙ drawn_as selection p s e.0 c.write_entries.new.writer.chart runs kept;
+          ∙ sym (ap (λ end. front (names_of p) ++ (numbered (lines_within selection.from selection.to) 0 c.write_entries.new.writer.chart ++ end_within selection.to (length c.write_entries.new.writer.chart) end)) k.told)
+          ∙ drawn_as selection p s k.log c.write_entries.new.writer.chart runs kept;
     })

@@ -2,11 +2,9 @@ use Rattle.std.proofs.Common.{◌⊎◌, inl, inr, Err, ap}
 use Rattle.std.specs.Option.{option_copied}
 use Rattle.std.proofs.lemmas.Option.{IfSome_then}
 use Rattle.std.proofs.lemmas.Result.{err_from_is_err_and}
-use Rattle.ioa_system.specs.Outcomes.{ending_of}
-use Rattle.ioa_log.specs.Failing.{HasFailed}
+use Rattle.ioa_device.specs.Failing.{HasFailed}
 use Rattle.ioa_serving.specs.Failing.{BeginsLogOf}
 use Rattle.ioa_serving.proofs.Refused.{err_so, kept, log_replay_refused, log_replay_ungiven, log_replay_unwritten}
-use Rattle.ioa_serving.proofs.Subjects.{as_compiled, log_beginning_as, log_replay_as, no_log_as, runs_as}
 use Rattle.ioa_serving.proofs.Kept.{keeps_same}
 use Rattle.ioa_serving.proofs.log_replay.replay_log_text.Goals as goal
 
@@ -33,8 +31,7 @@ returns-in_err-end-clause-refused g c =
     let of = c.in_ok-program.ensures.gives in
     err_so c.from_residual-in_err-end.result e.0 _ _ e.1 e.2
     (log_replay_refused c.args.text.now (option_copied c.args.composition) _ _ of.0 x of.1 (λ h. c.in_err-end.ensures.io (ap Err h))
-    (IfSome_then (g.R.Read.remaining c.args.input.now) (c.in_err-end.ensures.refused (as_compiled of.0) (runs_as c.in_ok-program.program of.0 of.2))
-    (λ xs k. no_log_as of.0 xs x k)))
+    (c.in_err-end.ensures.refused of.0 of.2))
 
 pub returns-in_err-end-clause-unwritten : goal.returns-in_err-end-clause-unwritten
 returns-in_err-end-clause-unwritten g c =
@@ -46,11 +43,10 @@ returns-in_err-end-clause-unwritten g c =
     (log_replay_unwritten begins _ _ x c.in_err-end.ensures.unwritten
     (λ h. elim (c.in_err-end.ensures.begun (ap Err h)) [
       | inl k ↦ inl k
-      | inr k ↦ inr (of.0, of.1, IfSome_then (g.R.Read.remaining c.args.input.now) (k (as_compiled of.0) (runs_as c.in_ok-program.program of.0 of.2)) (λ xs b. log_beginning_as of.0 xs _ _ b))
+      | inr k ↦ inr (of.0, of.1, k of.0 of.2)
     ]))
 
 pub returns-clause-replays : goal.returns-clause-replays
 returns-clause-replays g c =
     let of = c.in_ok-program.ensures.gives in
-    IfSome_then (g.R.Read.remaining c.args.input.now) (c.in_ok-end.ensures.ok (as_compiled of.0) (runs_as c.in_ok-program.program of.0 of.2))
-    (λ xs k. (of.0, of.1, log_replay_as of.0 xs (ending_of c.in_ok-end.end) _ _ k))
+    IfSome_then (g.R.Read.remaining c.args.input.now) (c.in_ok-end.ensures.ok of.0 of.2) (λ xs k. (of.0, of.1, k))

@@ -3,12 +3,12 @@ use Rattle.std.specs.Io.KnownBytes.{Appends}
 use Rattle.std.specs.Option.{option_copied}
 use Rattle.std.proofs.lemmas.Option.{IfSome_then}
 use Rattle.std.proofs.lemmas.Result.{err_from_is_err_and}
-use Rattle.ioa_log.specs.declared.failure.LogErr.{LogErr}
-use Rattle.ioa_log.specs.Failing.{HasFailed}
+use Rattle.ioa_device.specs.declared.failure.LogErr.{LogErr}
+use Rattle.ioa_device.specs.Failing.{HasFailed}
+use Rattle.ioa_compile.proofs.Subjects.{does_as}
 use Rattle.ioa_serving.specs.declared.failure.Failure.{Failure}
 use Rattle.ioa_serving.specs.Objects.{BeginsReplayAs}
 use Rattle.ioa_serving.proofs.Refused.{err_so, kept, list_failed, list_ungiven}
-use Rattle.ioa_serving.proofs.Subjects.{types_as}
 use Rattle.ioa_serving.proofs.Kept.{keeps_same}
 use Rattle.ioa_serving.proofs.replay_objects.replay_objects_text.Goals as goal
 
@@ -34,7 +34,7 @@ returns-in_err-told-clause-refused g c =
     let of = c.in_ok-program.ensures.gives in
     let said = c.in_err-told.ensures in
     err_so c.from_residual-in_err-told.result e.0 _ _ e.1 e.2
-    (list_failed c.args.text.now (option_copied c.args.composition) _ _ of.0 c.in_ok-program.program.types c.in_err-told.field-0.0 of.1 (types_as c.in_ok-program.program of.0 of.2)
+    (list_failed c.args.text.now (option_copied c.args.composition) _ _ of.0 c.in_ok-program.program.types c.in_err-told.field-0.0 of.1 (does_as c.in_ok-program.program of.0 of.2).types
     said.only said.bad (λ io. inl (said.io io)))
 
 pub returns-in_err-told-clause-unwritten : goal.returns-in_err-told-clause-unwritten

@@ -1,4 +1,4 @@
-use Rattle.ioa_log.specs.Failing.{HasFailed}
+use Rattle.ioa_device.specs.Failing.{HasFailed}
 use Rattle.ioa_serving.proofs.RunServed.{cut, served, within}
 use Rattle.ioa_serving.proofs.run.run_file.Goals as goal
 

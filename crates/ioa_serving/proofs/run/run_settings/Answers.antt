@@ -1,8 +1,11 @@
-use Rattle.std.proofs.Common.{List, length, map, subst, sym}
+use Rattle.std.proofs.Common.{◌≡◌, ◌∙◌, List, Vec, ap, length, map, subst, sym, arith}
+use Rattle.std.specs.Global.{Global}
+use Rattle.std.specs.Vec.{vec_len}
+use Rattle.std.proofs.lemmas.List.{length-map}
 use Rattle.std.proofs.lemmas.Result.{err_from_is_err_and}
 use Rattle.ioa_value.specs.declared.action.Action.{Action}
 use Rattle.ioa_value.specs.Actions.{act_of}
-use Rattle.ioa_system.specs.Logs.{logged}
+use Rattle.ioa_system.specs.Logs.{log_entry, logged}
 use Rattle.ioa_serving.specs.Alone.{IsReady}
 use Rattle.ioa_serving.proofs.Hosted.{count_same}
 use Rattle.ioa_serving.proofs.RunServed.{has_run}
@@ -30,7 +33,10 @@ returns-clause-ran g c =
     let k = c.in_ok-ready.ensures.ready in
     let r = c.in_ok-ready.ready in
     let ready = subst (λ (xs : List Action). IsReady (g.F.Store.holds c.args.store.now) c.args.settings.now k.subject (map act_of xs) (logged r.log)) (sym c.as_slice.ensures.value) k.ready in
-    has_run (g.F.Store.holds c.args.store.now) c.args.settings.now c.ran_of.result r.program c.in_ok-outcome.outcome k.subject (map act_of c.as_slice.result.now) (logged r.log) c.ran_of.ensures.program
-    c.ran_of.ensures.entries c.ran_of.ensures.end c.ran_of.ensures.reports ready k.runs c.in_ok-outcome.ensures.refused c.in_ok-outcome.ensures.outcome c.in_ok-outcome.ensures.ended
+    let script = ap (λ (xs : Vec Action Global). map act_of xs.items) c.ran_of.ensures.script ∙ ap (map act_of) (sym c.as_slice.ensures.value) in
+    let items : vec_len r.log.entries ≡ length r.log.entries.items = omega (arith, r.log.entries.ok.0) in
+    let began = c.ran_of.ensures.before ∙ c.len-before.ensures ∙ items ∙ sym (length-map r.log.entries.items log_entry) in
+    has_run (g.F.Store.holds c.args.store.now) c.args.settings.now c.ran_of.result r.program c.in_ok-outcome.outcome c.run_sources.new.tallies k.subject (map act_of c.as_slice.result.now) (logged r.log) c.ran_of.ensures.program
+    c.ran_of.ensures.entries c.ran_of.ensures.end c.ran_of.ensures.reports c.ran_of.ensures.tallies began script c.in_ok-outcome.ensures.tallied ready k.runs c.in_ok-outcome.ensures.refused c.in_ok-outcome.ensures.outcome c.in_ok-outcome.ensures.ended
     (exactly (g.F.Store.holds c.args.store.now) c.args.settings.now r.program k.subject (logged r.log) (map act_of c.as_slice.result.now) c.in_ok-outcome.outcome r.words (length r.program.members) k.program k.runs
     (count_same r.program k.subject k.runs) k.words c.in_ok-outcome.ensures.alone)

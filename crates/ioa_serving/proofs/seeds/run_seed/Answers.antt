@@ -6,7 +6,7 @@ use Rattle.ioa_compile.specs.Shown.{member_code}
 use Rattle.ioa_system.specs.Logs.{logged}
 use Rattle.ioa_run.specs.Alone.{IsAloneSince, IsOutcomeFrom, NoMemory, RefusesResumed}
 use Rattle.ioa_run.specs.Seeds.{words_from}
-use Rattle.ioa_run.specs.declared.report.Report.{Report}
+use Rattle.ioa_board.specs.declared.report.Report.{Report}
 use Rattle.ioa_serving.specs.Streams.{AreStreams}
 use Rattle.ioa_serving.proofs.seeds.run_seed.Goals as goal
 

@@ -1,6 +1,6 @@
 use Rattle.std.proofs.Common.{◌∙◌, ◌⊎◌, inl, inr, refl}
 use Rattle.std.proofs.lemmas.Result.{err_from_is_err_and}
-use Rattle.ioa_log.specs.Failing.{HasFailed}
+use Rattle.ioa_device.specs.Failing.{HasFailed}
 use Rattle.ioa_serving.specs.Devices.{Files, files}
 use Rattle.ioa_serving.proofs.Kept.{keeps_same}
 use Rattle.ioa_serving.proofs.Refused.{err_so}

@@ -2,7 +2,7 @@ use Rattle.std.proofs.Common.{◌∙◌, ℕ, List, ap, inl, inr, subst, sym, ta
 use Rattle.std.specs.Io.KnownBytes.{Appends}
 use Rattle.std.proofs.lemmas.Result.{err_from_is_err_and}
 use Rattle.ioa_serving.specs.declared.failure.Failure.{Failure}
-use Rattle.ioa_log.specs.Failing.{HasFailed}
+use Rattle.ioa_device.specs.Failing.{HasFailed}
 use Rattle.ioa_serving.proofs.Refused.{err_so}
 use Rattle.ioa_serving.proofs.SeedCuts.{lent_count}
 use Rattle.ioa_serving.proofs.SeedsTold.{addable, counted_all, cut_in_counts, told_with, uncounted}

@@ -2,7 +2,7 @@ use Rattle.std.proofs.Common.{◌≡◌, ◌∙◌, ◌+◌, ◌++◌, ◌∷◌
 use Rattle.std.proofs.lemmas.List.{length-map}
 use Rattle.std.proofs.lemmas.Result.{err_from_is_err_and}
 use Rattle.ioa_system.specs.Logs.{logged}
-use Rattle.ioa_log.specs.Failing.{HasFailed}
+use Rattle.ioa_device.specs.Failing.{HasFailed}
 use Rattle.ioa_serving.specs.declared.seed_tally.Tally.{Tally}
 use Rattle.ioa_serving.specs.Seeds.{Judged, monitors_of, seed_lines, seeds_count}
 use Rattle.ioa_serving.specs.SeedRuns.{IsCovered, IsTallyOf, IsTold, judged_of}

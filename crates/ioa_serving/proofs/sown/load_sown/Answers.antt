@@ -1,9 +1,9 @@
 use Rattle.std.proofs.Common.{inl, inr, subst, sym}
 use Rattle.std.specs.Option.{option_copied}
 use Rattle.std.proofs.lemmas.Result.{err_from_is_err_and}
+use Rattle.ioa_compile.specs.Subjects.{Subject}
 use Rattle.ioa_serving.specs.Headline.{IsFileOf}
 use Rattle.ioa_serving.specs.SeedRuns.{StandsFor}
-use Rattle.ioa_serving.specs.Subjects.{Subject}
 use Rattle.ioa_serving.proofs.Refused.{err_so}
 use Rattle.ioa_serving.proofs.Sowing.{unprogrammed}
 use Rattle.ioa_serving.proofs.Unrun.{unloaded}

@@ -2,8 +2,8 @@ use Rattle.std.proofs.Common.{inl, inr, refl, sym, ◌∙◌}
 use Rattle.std.specs.Option.{option_copied}
 use Rattle.std.proofs.lemmas.Result.{err_from_is_err_and}
 use Rattle.ioa_tree.specs.View.{tree_of}
+use Rattle.ioa_compile.specs.Subjects.{of_hosts}
 use Rattle.ioa_request.specs.Pasted.{texts}
-use Rattle.ioa_serving.specs.Subjects.{of_hosts}
 use Rattle.ioa_serving.proofs.Refused.{declared, err_so}
 use Rattle.ioa_serving.proofs.Sowing.{refused_given, specified}
 use Rattle.ioa_serving.proofs.Specified.{unwatched}

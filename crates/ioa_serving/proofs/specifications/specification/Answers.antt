@@ -2,10 +2,9 @@ use Rattle.std.proofs.Common.{inl, inr, refl}
 use Rattle.std.proofs.lemmas.Result.{err_from_is_err_and}
 use Rattle.ioa_lex.specs.declared.refusal.Refusal.TheVariants as refusals
 use Rattle.ioa_tree.specs.View.{tree_of}
-use Rattle.ioa_compile.specs.Subjects as compiled
 use Rattle.ioa_compose.specs.Held.{composed_of}
+use Rattle.ioa_compile.specs.Subjects.{Runs, of_hosts}
 use Rattle.ioa_serving.specs.declared.failure.Failure.{Failure}
-use Rattle.ioa_serving.specs.Running.{Runs}
 use Rattle.ioa_serving.proofs.Composed.{refused_named}
 use Rattle.ioa_serving.proofs.Refused.{err_so, same_refusal}
 use Rattle.ioa_serving.proofs.Specified.{specifies}
@@ -34,11 +33,11 @@ pub returns-then-hides_actions-clause-refused : goal.returns-then-hides_actions-
 returns-then-hides_actions-clause-refused c =
     let k = c.in_ok-composed.ensures.composed in
     let runs : Runs c.in_ok-program.program k.2 = (composed_of c.in_ok-composed.composed, k.4, c.in_ok-program.ensures) in
-    inr (inl (refl, (k.0, k.2, k.1, k.3, c.hides_actions.ensures.closed c.if-hides_actions.true (compiled.of_hosts k.2) runs)))
+    inr (inl (refl, (k.0, k.2, k.1, k.3, c.hides_actions.ensures.closed c.if-hides_actions.true (of_hosts k.2) runs)))
 
 pub returns-clause-specifies : goal.returns-clause-specifies
 returns-clause-specifies c =
     let k = c.in_ok-composed.ensures.composed in
     let runs : Runs c.in_ok-program.program k.2 = (composed_of c.in_ok-composed.composed, k.4, c.in_ok-program.ensures) in
     specifies (tree_of c.args.checked.now) c.args.composition.now c.in_ok-program.program k.0 k.2 k.1 k.3
-    (c.hides_actions.ensures.open c.if-hides_actions.false (compiled.of_hosts k.2) runs) runs
+    (c.hides_actions.ensures.open c.if-hides_actions.false (of_hosts k.2) runs) runs

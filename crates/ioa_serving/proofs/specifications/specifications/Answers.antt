@@ -4,7 +4,7 @@ use Rattle.std.specs.Borrow.{Bor}
 use Rattle.std.specs.List.{AllZip}
 use Rattle.ioa_value.specs.Actions.{Name}
 use Rattle.ioa_compile.specs.Programs.{Prog}
-use Rattle.ioa_log.specs.Monitoring.{hides}
+use Rattle.ioa_monitor.specs.Monitoring.{hides}
 use Rattle.ioa_request.specs.Pasted.{texts}
 use Rattle.ioa_tree.specs.View.{tree_of}
 use Rattle.ioa_serving.specs.declared.failure.Failure.{Failure}

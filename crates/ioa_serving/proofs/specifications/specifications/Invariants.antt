@@ -1,7 +1,7 @@
 use Rattle.std.proofs.Common.{◌≡◌, All, false, take}
 use Rattle.std.specs.List.{AllZip}
 use Rattle.ioa_tree.specs.View.{tree_of}
-use Rattle.ioa_log.specs.Monitoring.{hides}
+use Rattle.ioa_monitor.specs.Monitoring.{hides}
 use Rattle.ioa_request.specs.Pasted.{texts}
 use Rattle.ioa_serving.specs.Watching.{Specifies}
 use Rattle.ioa_serving.proofs.specifications.specifications.Given as goal

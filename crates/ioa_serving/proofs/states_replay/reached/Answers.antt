@@ -1,15 +1,13 @@
 use Rattle.std.proofs.Common.{◌++◌, IfSome, ap, subst, sym, ◌∙◌}
 use Rattle.std.proofs.lemmas.Option.{IfSome_then}
 use Rattle.std.proofs.lemmas.Result.{err_from_is_err_and}
-use Rattle.ioa_value.specs.Lists.{BadLine, ReadsList}
+use Rattle.ioa_value.specs.Lists.{BadLine}
 use Rattle.ioa_tree.specs.Hosts.{hosts_of, host_starts}
 use Rattle.ioa_tree.specs.Likes.{AllRelated}
 use Rattle.ioa_tree.specs.Runs.{run}
 use Rattle.ioa_compose.specs.Held.{composed_of}
-use Rattle.ioa_compile.specs.Subjects.{HoldsTyped, RunsAs, of_hosts}
-use Rattle.ioa_compile.proofs.Subjects.{does_as, run_as}
+use Rattle.ioa_compile.specs.Subjects.{HoldsTyped, of_hosts}
 use Rattle.ioa_system.specs.Systems.{values_of}
-use Rattle.ioa_log.proofs.LogReplays.{text_as}
 use Rattle.ioa_serving.specs.States.{shown_lines}
 use Rattle.ioa_serving.proofs.Refused.{err_as}
 use Rattle.ioa_serving.proofs.states_replay.reached.Goals as goal
@@ -22,16 +20,13 @@ returns-in_err-replayed-clause-bad g c = λ n r.
 
 pub returns-clause-reaches : goal.returns-clause-reaches
 returns-clause-reaches g c = λ h over stands.
-    let runs : RunsAs c.in_ok-program.program (of_hosts h) = (composed_of c.args.composition.now, stands, c.in_ok-program.ensures) in
-    IfSome_then (g.R.Read.remaining c.args.input.now) c.in_ok-replayed.ensures.ok
+    IfSome_then (g.R.Read.remaining c.args.input.now) (c.in_ok-replayed.ensures.ok (of_hosts h) (composed_of c.args.composition.now, stands, c.in_ok-program.ensures))
     (λ xs k.
-    let r = run_as c.in_ok-program.program (of_hosts h) runs k.acts in
     let states = (run (hosts_of h) k.acts (host_starts h)).states in (
       k.acts,
-      subst (λ ts. ReadsList ts xs k.acts) (does_as c.in_ok-program.program (of_hosts h) runs).types k.reads,
-      k.ending ∙ sym r.ending,
+      k.reads,
+      k.ending,
       c.in_ok-put_shown.ensures h states over stands c.in_ok-program.ensures
-          (subst (λ ns. AllRelated (HoldsTyped h.hosts c.in_ok-program.program.members) 0 states (values_of ns)) (sym c.deref.ensures.value)
-          (subst (λ vss. AllRelated (HoldsTyped h.hosts c.in_ok-program.program.members) 0 states vss) (sym k.states) r.states))
-          ∙ ap (λ told. told ++ shown_lines h c.args.shown states) (k.text ∙ text_as c.in_ok-program.program (of_hosts h) runs k.acts),
+          (subst (λ ns. AllRelated (HoldsTyped h.hosts c.in_ok-program.program.members) 0 states (values_of ns)) (sym c.deref.ensures.value) k.states)
+          ∙ ap (λ told. told ++ shown_lines h c.args.shown states) k.text,
     ))

@@ -5,8 +5,7 @@ use Rattle.ioa_tree.specs.Hosts.{hosts_of, host_starts}
 use Rattle.ioa_tree.specs.Likes.{AllRelated}
 use Rattle.ioa_tree.specs.Runs.{run}
 use Rattle.ioa_compose.specs.Held.{composed_of}
-use Rattle.ioa_compile.specs.Subjects as compiled
-use Rattle.ioa_compile.specs.Subjects.{HoldsTyped}
+use Rattle.ioa_compile.specs.Subjects.{HoldsTyped, of_hosts}
 use Rattle.ioa_system.specs.Logs.{actions_of}
 use Rattle.ioa_system.specs.Systems.{values_of}
 use Rattle.ioa_serving.specs.States.{shown_lines}
@@ -17,12 +16,12 @@ pub returns-in_err-performed-clause-refused : goal.returns-in_err-performed-clau
 returns-in_err-performed-clause-refused g c =
     let e = err_from_is_err_and c.from_residual-in_err-performed.result c.from_residual-in_err-performed.ensures.1 in
     err_so c.from_residual-in_err-performed.result e.0 _ _ e.1 e.2
-    (λ h stands. c.in_err-performed.ensures.subjects_refused (compiled.of_hosts h) (composed_of c.args.composition.now, stands, c.in_ok-program.ensures))
+    (λ h stands. c.in_err-performed.ensures.refused (of_hosts h) (composed_of c.args.composition.now, stands, c.in_ok-program.ensures))
 
 pub returns-clause-reaches : goal.returns-clause-reaches
 returns-clause-reaches g c = λ h over stands.
     IfSome_then (g.R.Read.remaining c.args.input.now)
-    (c.in_ok-performed.ensures.subjects (compiled.of_hosts h) (composed_of c.args.composition.now, stands, c.in_ok-program.ensures))
+    (c.in_ok-performed.ensures.ok (of_hosts h) (composed_of c.args.composition.now, stands, c.in_ok-program.ensures))
     (λ xs k.
     let states = (run (hosts_of h) (actions_of k.log) (host_starts h)).states in (
       k.log,

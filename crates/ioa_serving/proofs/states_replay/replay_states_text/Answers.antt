@@ -3,9 +3,9 @@ use Rattle.std.specs.Io.KnownBytes.{Appends}
 use Rattle.std.specs.Option.{option_copied}
 use Rattle.std.proofs.lemmas.Option.{IfSome_then}
 use Rattle.std.proofs.lemmas.Result.{err_from_is_err_and}
-use Rattle.ioa_log.specs.declared.failure.LogErr.{LogErr}
+use Rattle.ioa_compile.specs.Subjects.{of_hosts}
+use Rattle.ioa_device.specs.declared.failure.LogErr.{LogErr}
 use Rattle.ioa_serving.specs.declared.failure.Failure.{Failure}
-use Rattle.ioa_serving.specs.Subjects.{of_hosts}
 use Rattle.ioa_serving.proofs.Overt.{are_over}
 use Rattle.ioa_serving.proofs.Refused.{err_so, list_failed}
 use Rattle.ioa_serving.proofs.states_replay.replay_states_text.Goals as goal

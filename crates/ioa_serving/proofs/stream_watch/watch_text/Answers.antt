@@ -3,8 +3,8 @@ use Rattle.std.specs.List.{list_any}
 use Rattle.std.proofs.lemmas.Option.{IfSome_then}
 use Rattle.std.proofs.lemmas.Result.{err_from_is_err_and}
 use Rattle.ioa_compile.specs.Programs.{Prog}
-use Rattle.ioa_log.specs.declared.failure.LogErr.{LogErr}
-use Rattle.ioa_log.specs.Monitoring.{hides}
+use Rattle.ioa_device.specs.declared.failure.LogErr.{LogErr}
+use Rattle.ioa_monitor.specs.Monitoring.{hides}
 use Rattle.ioa_request.specs.Pasted.{texts}
 use Rattle.ioa_tree.specs.View.{tree_of}
 use Rattle.ioa_watch.specs.declared.watcher.Watcher.{Watcher}

@@ -4,9 +4,9 @@ use Rattle.std.proofs.lemmas.Result.{err_from_is_err_and}
 use Rattle.ioa_value.specs.Actions.{Act}
 use Rattle.ioa_value.specs.Table.{Table}
 use Rattle.ioa_system.specs.Logs.{logged}
-use Rattle.ioa_log.specs.declared.failure.LogErr.{LogErr}
-use Rattle.ioa_log.specs.LogMonitors.{IsNoText}
+use Rattle.ioa_device.specs.declared.failure.LogErr.{LogErr}
 use Rattle.ioa_log.specs.LogTexts.{ReadsLog}
+use Rattle.ioa_inspect.specs.LogMonitors.{IsNoText}
 use Rattle.ioa_serving.specs.Logs.{performed_in}
 use Rattle.ioa_serving.proofs.Strictly.{always, unread}
 use Rattle.ioa_serving.proofs.strict_monitor.ask.Goals as goal

@@ -2,7 +2,8 @@
 
 use crate::tests::made::{self, Got, Setting};
 use ioa_compile::Program;
-use ioa_log::{Counted, write_log};
+use ioa_device::Counted;
+use ioa_log::write_log;
 use ioa_system::Log;
 use ioa_value::{Action, Types, print_action};
 use std::alloc::Global;

@@ -87,7 +87,7 @@ pub fn alone(rt: &impl Abort, alloc: Global, lent: &Setting, spare: Spare) -> Ca
     let program = &lent.program;
     let words = seeded(rt, alloc, program);
     let hoard = all_but(rt, alloc, spare);
-    let answer = run_alone(alloc, program, TURNS, words, &[]);
+    let answer = run_alone(alloc, program, TURNS, words, &[], &mut Vec::new(alloc));
     drop(hoard);
     judged(rt, alloc, program, answer, RUN)
 }
@@ -96,7 +96,15 @@ pub fn resumed_alone(rt: &impl Abort, alloc: Global, lent: &Setting, spare: Spar
     let program = &lent.program;
     let words = seeded(rt, alloc, program);
     let hoard = all_but(rt, alloc, spare);
-    let answer = resume_alone(alloc, program, &lent.log, TURNS, words, &[]);
+    let answer = resume_alone(
+        alloc,
+        program,
+        &lent.log,
+        TURNS,
+        words,
+        &[],
+        &mut Vec::new(alloc),
+    );
     drop(hoard);
     judged(rt, alloc, program, answer, RESUMED)
 }
@@ -110,7 +118,16 @@ pub fn on_threads<H: Abort + Threads + Wait + Sync>(
     let program = &lent.program;
     let words = seeded(rt, alloc, program);
     let hoard = all_but(rt, alloc, spare);
-    let answer = run_threads(rt, alloc, program, TURNS, words, &[], &OpenGate);
+    let answer = run_threads(
+        rt,
+        alloc,
+        program,
+        TURNS,
+        words,
+        &[],
+        &OpenGate,
+        &mut Vec::new(alloc),
+    );
     drop(hoard);
     judged(rt, alloc, program, answer, RUN)
 }
@@ -124,7 +141,17 @@ pub fn resumed_on_threads<H: Abort + Threads + Wait + Sync>(
     let program = &lent.program;
     let words = seeded(rt, alloc, program);
     let hoard = all_but(rt, alloc, spare);
-    let answer = resume_threads(rt, alloc, program, &lent.log, TURNS, words, &[], &OpenGate);
+    let answer = resume_threads(
+        rt,
+        alloc,
+        program,
+        &lent.log,
+        TURNS,
+        words,
+        &[],
+        &OpenGate,
+        &mut Vec::new(alloc),
+    );
     drop(hoard);
     judged(rt, alloc, program, answer, RESUMED)
 }

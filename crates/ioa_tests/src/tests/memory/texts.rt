@@ -7,10 +7,10 @@ use crate::tests::memory::sources::THROWS;
 use crate::tests::memory::steps::{BROKEN, bounded, is_bounded, refused};
 use crate::tests::memory::{Came, all_but};
 use crate::tests::resumed::TICKED;
-use ioa_log::{
-    Counted, LogErr, LogInspection, hides_actions, inspect_log, log_list, monitor_log, read_log,
-    replay_list, replay_log, write_log,
-};
+use ioa_device::{Counted, LogErr};
+use ioa_inspect::{LogInspection, inspect_log, monitor_log};
+use ioa_log::{log_list, read_log, replay_list, replay_log, write_log};
+use ioa_monitor::hides_actions;
 use ioa_object::{ObjErr, read_object, write_object};
 use ioa_system::End;
 use std::alloc::Global;

@@ -5,9 +5,9 @@ use Rattle.std.proofs.lemmas.Bool.{false≢true}
 use Rattle.std.proofs.lemmas.Result.{err_from_is_err_and}
 use Rattle.ioa_value.specs.Table.{Table}
 use Rattle.ioa_compile.specs.Programs.{Prog}
-use Rattle.ioa_log.specs.declared.failure.LogErr.{LogErr}
-use Rattle.ioa_log.specs.LineReading.{rest}
-use Rattle.ioa_log.proofs.LineReading.{length_rest, line_taken, nothing_taken}
+use Rattle.ioa_device.specs.declared.failure.LogErr.{LogErr}
+use Rattle.ioa_device.specs.LineReading.{rest}
+use Rattle.ioa_device.proofs.LineReading.{length_rest, line_taken, nothing_taken}
 use Rattle.ioa_watch.specs.Streaming.{HasCome, HaveHeard}
 use Rattle.ioa_watch.specs.Streams.{IsNoLine, IsNotJson, known_by, told}
 use Rattle.ioa_watch.proofs.Failing.{failed_before, failed_behind, failed_last, failed_line, failed_within, watched_over, watched_whole}

@@ -1,7 +1,7 @@
 use Rattle.std.proofs.Common.{◌≡◌, ◌≤◌, ◌+◌, ◌-◌, ◌^◌, min, ℕ, List, IfSome, length}
 use Rattle.std.specs.Io.KnownBytes.{Appends}
 use Rattle.ioa_value.specs.Actions.{Act}
-use Rattle.ioa_log.specs.LineReading.{AreTaken, IsOver, IsWithin, rest, to_come}
+use Rattle.ioa_device.specs.LineReading.{AreTaken, IsOver, IsWithin, rest, to_come}
 use Rattle.ioa_watch.specs.Streaming.{HasCome}
 use Rattle.ioa_watch.specs.Streams.{told}
 use Rattle.ioa_watch.proofs.streams.watch.Given as goal

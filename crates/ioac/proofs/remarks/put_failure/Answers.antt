@@ -1,6 +1,6 @@
 use Rattle.std.proofs.Common.{◌≡◌, ℕ, List, Result, Ok, Err, OnOk, string_bytes}
 use Rattle.ioa_value.specs.Actions.{Name}
-use Rattle.ioa_log.specs.declared.failure.LogErr.{LogErr}
+use Rattle.ioa_device.specs.declared.failure.LogErr.{LogErr}
 use Rattle.ioa_request.specs.declared.request.Request.{Request}
 use Rattle.ioa_serving.specs.declared.failure.Failure.{Failure}
 use Rattle.ioac.specs.Refused.{IsFailureRemark, IsToldAt}

@@ -1,6 +1,6 @@
 use Rattle.std.proofs.Common.{◌≡◌, ◌<◌, ◌≤◌, length, map, sym, ◌∙◌, rules, arith}
 use Rattle.ioa_tree.specs.View.{name_of, variable_of}
-use Rattle.ioa_compose.specs.Fine.{component_limits}
+use Rattle.ioa_crash.specs.Limits.{component_limits}
 use Rattle.ioa_value.proofs.PlaceLemmas.{place_below}
 use Rattle.ioa_compile.proofs.scope.Scope.variable.Goals as goal
 

@@ -1,9 +1,9 @@
 use Rattle.std.proofs.Common.{◌≡◌, ◌∙◌, List, None, Option, sym, ap, subst}
-use Rattle.ioa_run.specs.Planning.{IsOf}
-use Rattle.ioa_run.specs.ProgramBoards.{ProgramBoard}
-use Rattle.ioa_run.specs.ProgramPlans.{ProgramPlan}
+use Rattle.ioa_board.specs.Planning.{IsOf}
+use Rattle.ioa_board.specs.ProgramBoards.{ProgramBoard}
+use Rattle.ioa_board.specs.ProgramPlans.{ProgramPlan}
 use Rattle.ioa_run.specs.ProgramSchedules.{ArePlans}
-use Rattle.ioa_run.specs.Verdicts.{Commit, GivesBack}
+use Rattle.ioa_board.specs.Verdicts.{Commit, GivesBack}
 use Rattle.ioa_run.proofs.Scheduling.{decided, given, nothing_spent, plan_spent, plans_put, restored, run_of, taken_there}
 use Rattle.ioa_run.proofs.schedule.Core.commit.Goals as goal
 

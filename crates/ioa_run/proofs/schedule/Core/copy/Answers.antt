@@ -1,7 +1,7 @@
 use Rattle.std.proofs.Common.{sym, subst}
 use Rattle.std.specs.Prelude.{IfSome}
 use Rattle.ioa_value.specs.Actions.{act_of}
-use Rattle.ioa_run.specs.Planning.{IsOf}
+use Rattle.ioa_board.specs.Planning.{IsOf}
 use Rattle.ioa_run.specs.ProgramSchedules.{ArePlans}
 use Rattle.ioa_run.proofs.Scheduling.{copied, own_plan, plans_put}
 use Rattle.ioa_run.proofs.schedule.Core.copy.Goals as goal

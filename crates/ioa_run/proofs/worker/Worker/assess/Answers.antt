@@ -4,7 +4,7 @@ use Rattle.ioa_compile.specs.Programs.{Prog}
 use Rattle.ioa_compile.specs.Tables.{tabled}
 use Rattle.ioa_tree.specs.Steps.{participants}
 use Rattle.ioa_system.specs.ProgramActions.{ProgramAction}
-use Rattle.ioa_run.proofs.Performing.{numbers_within}
+use Rattle.ioa_board.proofs.Performing.{numbers_within}
 use Rattle.ioa_run.proofs.worker.Worker.assess.Goals as goal
 
 pub copy-requires : goal.copy-requires

@@ -7,7 +7,7 @@ use Rattle.ioa_compile.specs.Tables.{IsProgram}
 use Rattle.ioa_compile.specs.declared.table.Entry.{Entry}
 use Rattle.ioa_compile.specs.declared.table.Member.{Member}
 use Rattle.ioa_run.specs.Choices.{AreOfState}
-use Rattle.ioa_run.proofs.Numbers.{got}
+use Rattle.ioa_board.proofs.Numbers.{got}
 use Rattle.ioa_run.proofs.Wishing.{over_copy, own_there}
 use Rattle.ioa_run.proofs.worker.Worker.choice.Goals as goal
 

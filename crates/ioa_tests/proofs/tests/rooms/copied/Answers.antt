@@ -3,7 +3,7 @@ use Rattle.ioa_value.specs.Actions.{act_of}
 use Rattle.ioa_tree.specs.Steps.{participants}
 use Rattle.ioa_compile.specs.Programs.{Prog}
 use Rattle.ioa_compile.specs.Tables.{tabled}
-use Rattle.ioa_run.proofs.Performing.{numbers_within}
+use Rattle.ioa_board.proofs.Performing.{numbers_within}
 use Rattle.ioa_tests.proofs.tests.rooms.copied.Goals as goal
 
 pub copy-requires : goal.copy-requires

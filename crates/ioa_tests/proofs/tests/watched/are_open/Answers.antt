@@ -2,7 +2,7 @@ use Rattle.std.proofs.Common.{◌≡◌, ◌∙◌, All, false, subst, sym, arit
 use Rattle.std.proofs.lemmas.List.{take_all}
 use Rattle.std.proofs.lemmas.List.Elements.{All-more}
 use Rattle.ioa_compile.specs.Programs.{Prog}
-use Rattle.ioa_log.specs.Monitoring.{hides}
+use Rattle.ioa_monitor.specs.Monitoring.{hides}
 use Rattle.ioa_tests.proofs.tests.watched.are_open.Goals as goal
 
 pub loop-program-preserved : goal.loop-program-preserved

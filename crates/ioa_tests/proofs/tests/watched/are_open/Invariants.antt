@@ -1,5 +1,5 @@
 use Rattle.std.proofs.Common.{◌≡◌, All, false, take}
-use Rattle.ioa_log.specs.Monitoring.{hides}
+use Rattle.ioa_monitor.specs.Monitoring.{hides}
 use Rattle.ioa_tests.proofs.tests.watched.are_open.Given as goal
 
 -- those so far hide nothing

@@ -1,7 +1,7 @@
 use Rattle.std.proofs.Common.{◌≡◌, ℕ, [], ◌∷◌, false, true, is_some, length, sym, ap, subst, ◌∙◌}
 use Rattle.std.proofs.lemmas.List.{length-map, map-append}
 use Rattle.ioa_value.specs.Table.{place_from}
-use Rattle.ioa_compose.specs.Index.{Adds}
+use Rattle.ioa_clash.specs.Index.{Adds}
 use Rattle.ioa_watch.specs.Names.{shown}
 use Rattle.ioa_watch.specs.Placed.{ArePlaced}
 use Rattle.ioa_watch.proofs.EntryNames.{no_name_there, with_new, with_there}

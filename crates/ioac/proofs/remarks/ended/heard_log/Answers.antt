@@ -1,5 +1,5 @@
 use Rattle.std.proofs.Common.{Err, inl, inr, ap, subst}
-use Rattle.ioa_log.specs.Failing.{IsTextErr}
+use Rattle.ioa_device.specs.Failing.{IsTextErr}
 use Rattle.ioa_log.specs.LogTexts.{GoesOnAt, HasNoEnd, NoEntryAt, NotJsonAt}
 use Rattle.ioac.proofs.remarks.ended.heard_log.Goals as goal
 

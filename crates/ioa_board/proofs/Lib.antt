@@ -1,0 +1,12 @@
+pub mod Numbers
+pub mod Performing
+pub mod Making
+pub mod Committing
+pub mod Since
+pub mod Telling
+pub mod Finishing
+pub mod Tried
+pub mod Attempted
+pub mod TellingAttempts
+pub mod Resumed
+pub mod PlannedNow

@@ -1,0 +1,13 @@
+pub mod Histories
+pub mod Boards
+pub mod Coded
+pub mod ProgramBoards
+pub mod ProgramPlans
+pub mod Planning
+pub mod Verdicts
+pub mod Reports
+pub mod ProgramRooms
+pub mod RoomCommits
+pub mod Outcomes
+pub mod Resuming
+pub mod Attempted

@@ -1,0 +1,3 @@
+pub mod Clashes
+pub mod Rows
+pub mod Index

@@ -1,7 +1,0 @@
-use Rattle.std.proofs.Common.{map}
-use Rattle.ioa_compose.specs.Clashes.{signed_of, signature_of}
-use Rattle.ioa_compose.proofs.SearchLemmas.{IsHitAmong}
-use Rattle.ioa_compose.proofs.clashes.first_hit.Given as goal
-
-abbrev pub invariant-loop-k : goal.invariant-loop-k
-invariant-loop-k l = IsHitAmong l.types (map signature_of l.signatures) (signed_of l.entry) l.start l.fn.end l.places l.k l.first

@@ -1,0 +1,11 @@
+pub mod SpelledNames
+pub mod SpelledTrees
+pub mod RewrittenNames
+pub mod RewrittenEntries
+pub mod ResetLemmas
+pub mod CrashLemmas
+pub mod RewrittenTypes
+pub mod RewrittenFine
+pub mod RewrittenLimits
+pub mod StaysLemmas
+pub mod RewritingLemmas

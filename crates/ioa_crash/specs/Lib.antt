@@ -1,0 +1,3 @@
+pub mod Rewriting
+pub mod Limits
+pub mod Crashes

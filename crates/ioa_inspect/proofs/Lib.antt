@@ -1,0 +1,6 @@
+pub mod Breaking
+pub mod FirstBroken
+pub mod LogEntries
+pub mod LogInspections
+pub mod Inspected
+pub mod LogMonitors

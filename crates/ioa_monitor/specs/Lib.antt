@@ -1,0 +1,3 @@
+pub mod Monitoring
+pub mod Accepting
+pub mod Watching
