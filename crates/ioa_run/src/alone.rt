@@ -30,7 +30,7 @@ use std::alloc::Global;
 ///
 /// A worker takes no more turns after a fault of its action, or where it would commit after another's; the others go on. Memory that is
 /// refused to a worker in its turn ends that worker alone, and its report says so. So of each worker all turns are counted, or fewer, since
-/// its action faulted, or another's did, or memory was refused to it. Behind a run the tallies are those of its components, in order; what stood there is gone.
+/// its action faulted, or another's did, or memory was refused to it. Behind a run the tallies are those of its components, in order; what stood there is gone, and may be where there is no run.
 ///
 /// It answers `TooManyTurns` where each worker would have more than 100,000 turns; then `BadInput` with the first action that is no
 /// input of the composition; and `OutOfMemory` where memory was refused before the start. It never answers `Threads`.

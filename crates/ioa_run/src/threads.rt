@@ -35,7 +35,7 @@ use std::thread::Threads;
 /// A worker tells the gate where it is, and waits there as long as the gate holds it. It takes no more turns after a fault of its action,
 /// or where it would commit after another's; the others go on. Memory that is refused to a worker in its turn ends that worker alone, and
 /// its report says so. So of each worker all turns are counted, or fewer, since its action faulted, or another's did, or memory was refused
-/// to it. Behind a run the tallies are those of its components, in order; what stood there is gone.
+/// to it. Behind a run the tallies are those of its components, in order; what stood there is gone, and may be where there is no run.
 ///
 /// It answers `TooManyTurns` where each worker would have more than 100,000 turns; then `BadInput` with the first action that is no input
 /// of the composition; `Threads` where a thread was refused, once the others are stopped and have ended, or where one has ended without a
