@@ -19,6 +19,12 @@ fail() {
   exit 1
 }
 
+# entries_only: what was printed, without what is told of arms and bodies, which an object does not know
+entries_only() {
+  grep -Ev ': (arm|else|body) [0-9.]+: (taken [0-9]+|never taken)$' "$work/printed" > "$work/entries"
+  mv "$work/entries" "$work/printed"
+}
+
 # both WORDS..: the words on the source and on the object, each before the options; what they print and their exit status has to be one
 both() {
   command=$1
@@ -28,6 +34,7 @@ both() {
   status=$?
   (cd "$work/alone" && "$program" "$command" object "$@" < "$list" > "$work/answer" 2>&1)
   [ $? -eq "$status" ] || fail "$source" "$command $* of $composition has another exit status by the object, for $list"
+  case " $* " in *" --coverage "*) entries_only ;; esac
   cmp -s "$work/printed" "$work/answer" || fail "$source" "$command $* of $composition is another by the object, for $list"
   replays=$((replays + 1))
 }

@@ -2,7 +2,7 @@
 use Rattle.std.proofs.Common.{◌≡◌, ◌+◌, ◌++◌, ◌∷◌, ◌<◌, ◌≤◌, ◌^◌, ℕ, All, Bool, true, false, List, [], Some, ap, ap₂, arith, cond, get_or, length, map, refl, slice_get, subst, sym, take, ◌∙◌}
 use Rattle.std.specs.Prelude.{count_by}
 use Rattle.std.specs.List.{flat_map}
-use Rattle.std.proofs.lemmas.List.{flat_map_more, map-append, map_more}
+use Rattle.std.proofs.lemmas.List.{map-append, map_more}
 use Rattle.std.proofs.lemmas.List.Elements.{All-append, All-cons, All-head, All-nil, All-tail}
 use Rattle.std.proofs.lemmas.List.Sums.{count_by-le-length, count_by_more_no, count_by_more_yes, sum_by-append}
 use Rattle.std.proofs.lemmas.Option.{get_or_from_slice_get, slice_get_within}
@@ -99,9 +99,3 @@ rows_counted w rs xs all r x i lt at so one is =
     ap (map count_row) is ∙ map-append count_row xs (x ∷ [])
     ∙ ap₂ (λ (us vs : List CountRow). us ++ vs) so (ap (λ (b : CountRow). b ∷ []) (one ∙ ap (λ (y : Row). w (count_row y)) at))
     ∙ sym (ap (map w) (map_more count_row rs i r lt) ∙ map-append w (map count_row (take i rs)) (count_row (get_or rs i r) ∷ []))
-
-pub lines_more : (f : Counted → List ℕ) (rs : List Row) (r : Row) (i : ℕ) (old now new : List ℕ) → i < length rs → r ≡ get_or rs i r → now ≡ old ++ flat_map f (map told_row (take i rs))
-    → new ≡ now ++ f (told_row r) → new ≡ old ++ flat_map f (map told_row (take (i + 1) rs))
-lines_more f rs r i old now new lt at so one =
-    one ∙ ap (λ (t : List ℕ). t ++ f (told_row r)) so ∙ flat_map_more f old (map told_row (take i rs)) (told_row r)
-    ∙ ap (λ (xs : List Counted). old ++ flat_map f xs) (ap (λ (x : Row). map told_row (take i rs) ++ told_row x ∷ []) at ∙ sym (map_more told_row rs i r lt))

@@ -20,7 +20,7 @@ use Rattle.ioa_compile.specs.Tables.{is_in}
 use Rattle.ioa_coverage.specs.Performed.{Counted, CoverageIsTheHosts, how_often, of_code, of_entry, of_host, of_member}
 
 -- the table's entry has the actions of the automaton's
-in_table : (m : Member) (types : Table) (e : EntryTree) (c : EntryCode) (a : Act) → types ≡ m.instance.types → MatchesEntry m e c → is_in types a c ≡ entry_has m.instance a e
+pub in_table : (m : Member) (types : Table) (e : EntryTree) (c : EntryCode) (a : Act) → types ≡ m.instance.types → MatchesEntry m e c → is_in types a c ≡ entry_has m.instance a e
 in_table m types e c a same h =
     ap (λ (l : Table). is_in l a c) same
     ∙ sym (ap (λ (b : Bool). bytes_eq c.name a.name && b) (domains_have m.instance e.positions c.positions a.vals h.positions))
@@ -44,7 +44,7 @@ module _ (p : Host) (m : Member) (a : Act) (e : EntryTree) where
   with_those n (x ∷ es) zero s own = own zero s
   with_those n (x ∷ es) (suc k) s own = with_those n es k s (λ j q. own (suc j) q)
 
-  host_alike : (crash : Option CrashTree) (k : ℕ) → IsMadeBy crash p m → slice_get (with_signals crash p.instance.automaton).entries k ≡ Some e → Alike
+  pub host_alike : (crash : Option CrashTree) (k : ℕ) → IsMadeBy crash p m → slice_get (with_signals crash p.instance.automaton).entries k ≡ Some e → Alike
   host_alike None k made s = made.actions k e a s
   host_alike (Some n) k made s = with_those n p.instance.automaton.entries k s (λ j q. made.actions j e a q)
 

@@ -7,7 +7,6 @@ use Rattle.ioa_compile.specs.Programs.{EntryCode, MemberCode, Prog}
 use Rattle.ioa_compile.specs.Shown.{entry_code, member_code}
 use Rattle.ioa_compile.specs.Tables.{is_in}
 use Rattle.ioa_system.specs.declared.log.LogEntry.{LogEntry}
-use Rattle.ioa_coverage.specs.declared.coverage.Coverage.{Coverage}
 use Rattle.ioa_coverage.specs.declared.coverage.Row.{Row}
 use Rattle.ioa_coverage.specs.Performed.{Counted, how_often}
 
@@ -39,8 +38,8 @@ abbrev pub rows_of : Prog → List Act → List CountRow
 rows_of p acts = flat_map (member_rows acts) p.members
 
 -- each entry of the program is counted, over these actions
-abbrev pub CountsAll : Prog → List Act → Coverage → Type 0
-CountsAll p acts c = map count_row c.rows.items ≡ rows_of p acts
+abbrev pub CountsAll : Prog → List Act → List Row → Type 0
+CountsAll p acts rs = map count_row rs ≡ rows_of p acts
 
 -- with more actions
 abbrev pub with_more : List Act → CountRow → CountRow

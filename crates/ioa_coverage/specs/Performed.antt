@@ -1,7 +1,6 @@
 -- How often entries are performed over the actions that a run performs: an entry is performed as often as an action is that it has (Lynch 1996, section 8.1: the
 -- signature of a component says which actions are its own).
-use Rattle.std.specs.Prelude.{◌≡◌, ◌==◌, ◌++◌, ℕ, List, [], cond, codes, count_by, map}
-use Rattle.std.specs.Fmt.{decimal}
+use Rattle.std.specs.Prelude.{◌≡◌, ℕ, List, count_by, map}
 use Rattle.std.specs.List.{flat_map}
 use Rattle.ioa_value.specs.Actions.{Act, Name}
 use Rattle.ioa_tree.specs.Hosts.{Host, Hosted}
@@ -20,6 +19,10 @@ pub record Counted : Type 0 where
 
 abbrev pub how_often : Name → Name → ℕ → Counted
 how_often component entry times = record { component = component; entry = entry; times = times }
+
+-- the actions of several runs, one run's behind the other's
+abbrev pub all_of : List (List Act) → List Act
+all_of runs = flat_map (λ acts. acts) runs
 
 -- ---- of the hosts that a source declares
 
@@ -48,21 +51,3 @@ counted_table p acts = flat_map (of_member acts) p.members
 -- they are the same, where the program does what the hosts do
 abbrev pub CoverageIsTheHosts : Type 0
 CoverageIsTheHosts = (p : Prog) (h : Hosted) (acts : List Act) → Runs p h → counted_table p acts ≡ counted_in h acts
-
--- ---- what is told
-
-abbrev pub performed_line : Counted → List ℕ
-performed_line c = c.component ++ (codes ": " ++ (c.entry ++ (codes ": performed " ++ (decimal c.times ++ codes "\n"))))
-
-abbrev pub never_line : Counted → List ℕ
-never_line c = c.component ++ (codes ": " ++ (c.entry ++ codes ": never performed\n"))
-
-abbrev pub if_performed : Counted → List ℕ
-if_performed c = cond (c.times == 0) [] (performed_line c)
-
-abbrev pub if_never : Counted → List ℕ
-if_never c = cond (c.times == 0) (never_line c) []
-
--- a line for each: of those that were performed, in their order, and then of those that never were
-abbrev pub coverage_text : List Counted → List ℕ
-coverage_text cs = flat_map if_performed cs ++ flat_map if_never cs

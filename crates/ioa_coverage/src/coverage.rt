@@ -1,17 +1,20 @@
 //! Counts of a program's entries, one for each of each component, and how often they were performed.
 
-ghost use Rattle.std.specs.Prelude.{◌≡◌, ◌≤◌, ◌++◌, [], IfOk, OnOk, length, map};
+ghost use Rattle.std.specs.Prelude.{◌≡◌, ◌≤◌, ◌++◌, ◌∷◌, [], IfOk, OnOk, length, map};
 ghost use Rattle.std.specs.List.{flat_map};
+ghost use Rattle.std.specs.Option.{option_copied};
 ghost use Rattle.std.specs.String.{string_bytes};
 ghost use Rattle.ioa_value.specs.Actions.{act_of};
-ghost use Rattle.ioa_tree.specs.Hosts.{Hosted};
 ghost use Rattle.ioa_compile.specs.Shown.{entry_code, member_code};
-ghost use Rattle.ioa_compile.specs.Subjects.{Runs};
+ghost use Rattle.ioa_compile.specs.Subjects.{RunsAs, Subject};
 ghost use Rattle.ioa_compile.specs.Tables.{is_in};
 ghost use Rattle.ioa_coverage.specs.Counts as counts;
 ghost use Rattle.ioa_coverage.specs.Counts.{entered, member_rows, count_row, with_more};
-ghost use Rattle.ioa_coverage.specs.Performed.{counted_in, counted_table, coverage_text};
+ghost use Rattle.ioa_coverage.specs.Covered.{IsOriginOf, its_coverage};
 
+use crate::effect::Effect;
+use crate::origin::{Origin, effects_of};
+use crate::runs::take_run;
 use crate::telling::put_counts;
 use ioa_compile::{Entry, Member, Program};
 use ioa_system::LogEntry;
@@ -26,67 +29,87 @@ pub(crate) struct Row<'a> {
     pub(crate) times: u128,
 }
 
-/// How often each entry of a program was performed.
+/// How often each entry of a program was performed and, where its source is known, how often each arm of an `if` of its effect and each body of a loop was taken.
 #[derive(Drop)]
 pub struct Coverage<'a> {
+    program: &'a Program,
     /// The entries of each component, component by component.
     rows: Vec<Row<'a>>,
+    /// Of a source the effects of these entries, one for each; of an object none.
+    effects: Vec<Effect<'a>>,
 }
 
 impl<'a> Coverage<'a> {
-    ghost use Rattle.std.specs.Prelude.{◌≡◌, ◌≤◌, ◌<◌, ◌++◌, ◌+◌, ◌^◌, [], List, IfOk, OnOk, length};
+    ghost use Rattle.std.specs.Prelude.{◌≡◌, ◌≤◌, ◌<◌, ◌++◌, ◌∷◌, ◌+◌, ◌^◌, [], List, Option, IfOk, OnOk, length};
+    ghost use Rattle.std.specs.Option.{option_map};
     ghost use Rattle.std.specs.String.{string_bytes};
     ghost use Rattle.ioa_value.specs.Actions.{Act};
     ghost use Rattle.ioa_compile.specs.Programs.{Prog};
-    ghost use Rattle.ioa_coverage.specs.Counts.{CountsAll, entered};
-    ghost use Rattle.ioa_coverage.specs.Performed.{counted_table, coverage_text};
+    ghost use Rattle.ioa_compile.specs.Subjects.{RunsAs, Subject};
+    ghost use Rattle.ioa_coverage.specs.declared.origin.Origin.{Origin};
+    ghost use Rattle.ioa_coverage.specs.Counts.{entered};
+    ghost use Rattle.ioa_coverage.specs.Covered.{IsOriginOf, its_coverage};
+    ghost use Rattle.ioa_coverage.specs.Effects.{CoversAll};
+    ghost use Rattle.ioa_coverage.specs.Performed.{all_of};
 
-    /// The counts of a program before any action.
-    pub fn start(alloc: Global, program: &'a Program) -> Result<Coverage<'a>, OutOfMemory>
-        ensures { IfOk result (CountsAll program.now []) }
+    /// The counts of a program before any run. Where its source is given, the effects of the source's composition are followed, too; `add` and `text` ask that this
+    /// declares what the program runs as.
+    pub fn start(
+        alloc: Global,
+        program: &'a Program,
+        source: Option<&'a Origin>,
+    ) -> Result<Coverage<'a>, OutOfMemory>
+        ensures { IfOk result (CoversAll program.now (option_copied source.entry) []) }
     {
         let rows = rows_before(alloc, program.members())?;
-        Ok(Coverage { rows })
+        let effects = match source {
+            Some(source) => effects_of(alloc, program, source)?,
+            None => Vec::new(alloc),
+        };
+        Ok(Coverage {
+            program,
+            rows,
+            effects,
+        })
     }
 
-    /// Counts the actions of these entries of a log, which were performed behind those before. It asks that they are fewer than 2^128 in all. Where memory
-    /// is short, nothing is counted.
+    /// Counts one run more, from the start on: the actions of these entries of a log, and what effects take as far as they are performed. It asks that the
+    /// actions of all runs are fewer than 2^128, and that the program runs as a source that is known declares. Where memory is short, what is counted then is not said.
     pub fn add(&mut self, alloc: Global, log: &[LogEntry]) -> Result<(), OutOfMemory>
-        requires { (p : Prog) × (acts : List Act) × CountsAll p acts self.old × (length acts + length log.now < 2 ^ 128) }
-        ensures { OnOk result ((p : Prog) (acts : List Act) → CountsAll p acts self.old → CountsAll p (acts ++ entered log.now) self.new) }
+        requires { (p : Prog) × (source : Option Origin) × (s : Subject) × (runs : List (List Act)) × CoversAll p source runs self.old × RunsAs p s × IsOriginOf source s
+            × (length (all_of runs) + length log.now < 2 ^ 128) }
+        ensures { OnOk result ((p : Prog) (source : Option Origin) (runs : List (List Act)) → CoversAll p source runs self.old
+            → CoversAll p source (runs ++ entered log.now ∷ []) self.new) }
     {
-        let rows = counted_more(alloc, &self.rows, log)?;
-        self.rows = rows;
+        take_run(alloc, self.program, &mut self.effects, log)?;
+        self.rows = counted_more(alloc, &self.rows, log)?;
         Ok(())
     }
 
-    /// The lines that tell the counts: of each entry that was performed, in the order of the components and of their entries; and then of each that never was.
+    /// The lines that tell the counts: of each entry that was performed, in the order of the components and of their entries, and behind it of its arms and bodies
+    /// that were taken; and then of all that never were.
     pub fn text(&self, alloc: Global) -> Result<String, OutOfMemory>
-        ensures { IfOk result (λ text. (p : Prog) (acts : List Act) → CountsAll p acts self.now → string_bytes text ≡ coverage_text (counted_table p acts)) }
+        ensures { IfOk result (λ text. (p : Prog) (source : Option Origin) (s : Subject) (runs : List (List Act)) → CoversAll p source runs self.now → RunsAs p s
+            → IsOriginOf source s → string_bytes text ≡ its_coverage s runs) }
     {
         let mut text = String::new(alloc);
-        put_counts(&mut text, &self.rows)?;
+        put_counts(&mut text, &self.rows, &self.effects)?;
         Ok(text)
     }
 }
 
-/// The lines that tell how often the entries of a program were performed by the actions of these entries of a log.
+/// The lines that tell how often the entries of a program were performed in a run by the actions of these entries of a log and, of a source, how often the arms and
+/// bodies of their effects were taken.
 pub fn coverage_of(
     alloc: Global,
     program: &Program,
+    source: Option<&Origin>,
     log: &[LogEntry],
 ) -> Result<String, OutOfMemory>
-    ensures table { IfOk result (λ text. string_bytes text ≡ coverage_text (counted_table program.now (entered log.now))) }
-    ensures hosts { IfOk result (λ text. (h : Hosted) → Runs program.now h → string_bytes text ≡ coverage_text (counted_in h (entered log.now))) }
+    requires { (s : Subject) × RunsAs program.now s × IsOriginOf (option_copied source) s }
+    ensures { IfOk result (λ text. (s : Subject) → RunsAs program.now s → IsOriginOf (option_copied source.entry) s → string_bytes text ≡ its_coverage s (entered log.now ∷ [])) }
 {
-    table_coverage(alloc, program, log)
-}
-
-/// The same, said of the program's own table.
-fn table_coverage(alloc: Global, program: &Program, log: &[LogEntry]) -> Result<String, OutOfMemory>
-    ensures { IfOk result (λ text. string_bytes text ≡ coverage_text (counted_table program.now (entered log.now))) }
-{
-    let mut coverage = Coverage::start(alloc, program)?;
+    let mut coverage = Coverage::start(alloc, program, source)?;
     coverage.add(alloc, log)?;
     coverage.text(alloc)
 }
@@ -160,7 +183,7 @@ fn count(member: &Member, entry: &Entry, log: &[LogEntry]) -> usize
 }
 
 /// Whether the entry has the action.
-fn has(member: &Member, entry: &Entry, action: &Action) -> bool
+pub(crate) fn has(member: &Member, entry: &Entry, action: &Action) -> bool
     ensures { result ≡ is_in (member_code member.now).start.table (act_of action.now) (entry_code entry.now) }
 {
     entry.name.as_str() == action.name.as_str()

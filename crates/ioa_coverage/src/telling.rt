@@ -1,64 +1,94 @@
-//! Lines that tell how often entries were performed.
+//! Lines that tell how often entries were performed, and arms and bodies taken.
 
-ghost use Rattle.std.specs.Prelude.{◌≡◌, ◌++◌, OnOk, map};
+ghost use Rattle.std.specs.Prelude.{◌≡◌, ◌++◌, OnOk};
 ghost use Rattle.std.specs.List.{flat_map};
 ghost use Rattle.std.specs.String.{string_bytes};
 ghost use Rattle.ioa_coverage.specs.Counts.{told_row};
-ghost use Rattle.ioa_coverage.specs.Performed as spec;
+ghost use Rattle.ioa_coverage.specs.Effects.{place_row, told_effect, told_rows};
+ghost use Rattle.ioa_coverage.specs.Taken.{line_by, row_of_entry, told_of};
 
 use crate::coverage::Row;
+use crate::effect::Effect;
 use ioa_value::OutOfMemory;
 use std::fmt::Write;
 
-/// Puts the lines of these counts behind the text: of the entries that were performed, and then of those that never were.
-pub(crate) fn put_counts(text: &mut String, rows: &[Row<'_>]) -> Result<(), OutOfMemory>
-    ensures { OnOk result (string_bytes text.new ≡ string_bytes text.old ++ spec.coverage_text (map told_row rows.now)) }
+/// Puts the lines of these counts behind the text: of the entries that were performed and the arms and bodies that were taken, and then of those that never were.
+pub(crate) fn put_counts(
+    text: &mut String,
+    rows: &[Row<'_>],
+    effects: &[Effect<'_>],
+) -> Result<(), OutOfMemory>
+    ensures { OnOk result (string_bytes text.new ≡ string_bytes text.old ++ told_of (told_rows rows.now effects.now)) }
 {
-    put_performed(text, rows)?;
-    put_never(text, rows)
+    put_lines(text, rows, effects, true)?;
+    put_lines(text, rows, effects, false)
 }
 
-/// Puts a line for each entry that was performed.
-fn put_performed(text: &mut String, rows: &[Row<'_>]) -> Result<(), OutOfMemory>
-    ensures { OnOk result (string_bytes text.new ≡ string_bytes text.old ++ flat_map spec.if_performed (map told_row rows.now)) }
+/// Puts a line for each entry, and behind it for each arm and body of its effect: of what was done, or of what never was.
+fn put_lines(
+    text: &mut String,
+    rows: &[Row<'_>],
+    effects: &[Effect<'_>],
+    done: bool,
+) -> Result<(), OutOfMemory>
+    ensures { OnOk result (string_bytes text.new ≡ string_bytes text.old ++ flat_map (line_by done) (told_rows rows.now effects.now)) }
 {
-    for row in rows {
-        put_if_performed(text, row)?;
+    for index in 0..rows.len() {
+        let row = &rows[index];
+        put_entry(text, row, done)?;
+        if let Some(effect) = effects.get(index) {
+            put_places(text, row, effect, done)?;
+        }
     }
     Ok(())
 }
 
-/// Puts a line for each entry that never was.
-fn put_never(text: &mut String, rows: &[Row<'_>]) -> Result<(), OutOfMemory>
-    ensures { OnOk result (string_bytes text.new ≡ string_bytes text.old ++ flat_map spec.if_never (map told_row rows.now)) }
+/// Puts a line for each arm and body of an entry's effect.
+fn put_places(
+    text: &mut String,
+    row: &Row<'_>,
+    effect: &Effect<'_>,
+    done: bool,
+) -> Result<(), OutOfMemory>
+    ensures { OnOk result (string_bytes text.new ≡ string_bytes text.old ++ flat_map (line_by done) (told_effect row.now effect.now)) }
 {
-    for row in rows {
-        put_if_never(text, row)?;
+    for index in 0..effect.labels.len() {
+        if let Some(times) = effect.taken.get(index) {
+            put_place(text, row, effect.labels[index].as_str(), *times, done)?;
+        }
     }
     Ok(())
 }
 
-fn put_if_performed(text: &mut String, row: &Row<'_>) -> Result<(), OutOfMemory>
-    ensures { OnOk result (string_bytes text.new ≡ string_bytes text.old ++ spec.if_performed (told_row row.now)) }
+fn put_place(
+    text: &mut String,
+    row: &Row<'_>,
+    label: &str,
+    times: u64,
+    done: bool,
+) -> Result<(), OutOfMemory>
+    ensures { OnOk result (string_bytes text.new ≡ string_bytes text.old ++ line_by done (place_row row.now label.now times)) }
 {
-    if row.times == 0 {
-        return Ok(());
-    }
     let component = row.member.name.as_str();
     let entry = row.entry.name.as_str();
-    let times = row.times;
-    writeln!(text, "{component}: {entry}: performed {times}")?;
+    if done && times != 0 {
+        writeln!(text, "{component}: {entry}: {label}: taken {times}")?;
+    } else if !done && times == 0 {
+        writeln!(text, "{component}: {entry}: {label}: never taken")?;
+    }
     Ok(())
 }
 
-fn put_if_never(text: &mut String, row: &Row<'_>) -> Result<(), OutOfMemory>
-    ensures { OnOk result (string_bytes text.new ≡ string_bytes text.old ++ spec.if_never (told_row row.now)) }
+fn put_entry(text: &mut String, row: &Row<'_>, done: bool) -> Result<(), OutOfMemory>
+    ensures { OnOk result (string_bytes text.new ≡ string_bytes text.old ++ line_by done (row_of_entry (told_row row.now))) }
 {
-    if row.times != 0 {
-        return Ok(());
-    }
     let component = row.member.name.as_str();
     let entry = row.entry.name.as_str();
-    writeln!(text, "{component}: {entry}: never performed")?;
+    if done && row.times != 0 {
+        let times = row.times;
+        writeln!(text, "{component}: {entry}: performed {times}")?;
+    } else if !done && row.times == 0 {
+        writeln!(text, "{component}: {entry}: never performed")?;
+    }
     Ok(())
 }

@@ -138,7 +138,7 @@ fn read_replay<'m>(found: &'m ArgMatches<'_>) -> Option<Request<'m>>
     }
 }
 
-/// The request of a replay that is asked how often each entry is performed. None where it is asked for invariants, or to tell of states, too.
+/// The request of a replay that is asked how often each entry is performed, and each arm and body taken. None where it is asked for invariants, or to tell of states, too.
 fn read_covered<'m>(
     found: &'m ArgMatches<'_>,
     file: &'m str,

@@ -57,7 +57,7 @@ pub enum Request<'a> {
         /// Whether objects are told.
         json: bool,
     },
-    /// To replay the list, or the log, on standard input in a composition of a source, or in an object, and to tell how often each entry is performed.
+    /// To replay the list, or the log, on standard input in a composition of a source, or in an object, and to tell how often each entry is performed, and each arm and body taken.
     ReplayCoverage {
         file: &'a str,
         composition: Option<&'a str>,
@@ -249,7 +249,7 @@ fn enabled_flag<'a>(alloc: Global) -> Arg<'a>
     )
 }
 
-/// What tells how often each entry is performed.
+/// What tells how often each entry is performed, and each arm and body taken.
 pub fn coverage_flag<'a>(alloc: Global) -> Arg<'a>
     ensures rule { rule_of result ≡ coverage_rule }
     ensures local { result.global ≡ false }
@@ -257,7 +257,7 @@ pub fn coverage_flag<'a>(alloc: Global) -> Arg<'a>
     flag(
         alloc,
         "coverage",
-        "How often each entry of each component is performed is told on standard error, and last which never are",
+        "How often each entry is performed and, of a source, each arm and loop body of its effect taken is told on standard error, and last which never are",
     )
 }
 

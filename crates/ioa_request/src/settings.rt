@@ -30,7 +30,7 @@ pub struct Settings<'a> {
     pub log: bool,
     /// Whether the workers' reports are told.
     pub reports: bool,
-    /// Whether it is told how often each entry is performed.
+    /// Whether it is told how often each entry is performed, and each arm and body taken.
     pub coverage: bool,
 }
 

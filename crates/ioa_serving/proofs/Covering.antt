@@ -1,33 +1,25 @@
--- What is told of a program's entries is told of those of what it runs as.
-use Rattle.std.proofs.Common.{◌≡◌, ◌⊎◌, ◌+◌, ◌∙◌, ◌≤◌, ◌<◌, ◌-◌, ◌^◌, ◌∷◌, ◌++◌, ◌&&◌, ℕ, Bool, true, false, List, [], Option, None, Some, IfSome, ap, ap₂, arith, if◌then◌else◌, inl, inr, length, map, refl, subst, sym, take}
-use Rattle.std.specs.Prelude.{count_by}
+-- What is told of entries, and of arms and bodies, over what a list or a log in memory tells to be performed, and over a run.
+use Rattle.std.proofs.Common.{◌≡◌, ◌⊎◌, ◌+◌, ◌∙◌, ◌≤◌, ◌<◌, ◌-◌, ◌^◌, ◌∷◌, ◌++◌, ℕ, Bool, true, false, List, [], Option, None, Some, IfSome, ap, ap₂, arith, if◌then◌else◌, inl, inr, length, map, refl, subst, sym, take}
+use Rattle.std.specs.Borrow.{Bor}
 use Rattle.std.specs.Io.KnownBytes.{Appends}
-use Rattle.std.specs.List.{AllZip, flat_map}
-use Rattle.std.specs.Str.{bytes_eq}
+use Rattle.std.specs.Option.{option_copied}
 use Rattle.std.proofs.lemmas.Option.{IfSome_then}
 use Rattle.std.proofs.lemmas.List.{length-map, take-map}
 use Rattle.std.specs.String.{string_bytes}
-use mathlib.Core.Path.{fun_ext}
 use Rattle.ioa_value.specs.Actions.{Act, Name, act_of}
 use Rattle.ioa_value.specs.Lists as lists
 use Rattle.ioa_value.specs.Lists.{ReadsList}
 use Rattle.ioa_value.specs.Table.{AreTypes, Table}
 use Rattle.ioa_value.proofs.ListOnceLemmas.{lines_once}
 use Rattle.ioa_tree.specs.Components.{Component}
-use Rattle.ioa_tree.specs.Compositions.{Member}
-use Rattle.ioa_tree.specs.Instances.{entry_has, positions_have}
 use Rattle.ioa_tree.specs.Runs.{Ending, after, done, fault_at, not_an_action_at, not_enabled_at, run, run_from}
 use Rattle.ioa_tree.specs.Steps.{Moved, fault, next, not_an_action, not_enabled, step}
-use Rattle.ioa_tree.specs.Tree.{EntryTree}
-use Rattle.ioa_tree.proofs.Domains.{domains_have}
-use Rattle.ioa_compile.specs.Matching.{MatchesEntry, MatchesMember}
-use Rattle.ioa_compile.specs.Programs.{EntryCode, MemberCode, Prog}
-use Rattle.ioa_compile.specs.Subjects.{RunsAs, Subject, its_components, its_starts, its_types, of_composition, of_hosts, of_table}
-use Rattle.ioa_compile.specs.Tables.{is_in}
+use Rattle.ioa_compile.specs.Programs.{Prog}
+use Rattle.ioa_compile.specs.Subjects.{RunsAs, Subject, its_components, its_starts, its_types}
 use Rattle.ioa_compile.proofs.Subjects.{does_as}
+use Rattle.ioa_coverage.specs.declared.origin.Origin.{Origin}
 use Rattle.ioa_coverage.specs.Counts.{entered}
-use Rattle.ioa_coverage.specs.Performed.{Counted, counted_table, coverage_text, how_often, of_code, of_member}
-use Rattle.ioa_coverage.proofs.Hosting.{coverage_is_the_hosts}
+use Rattle.ioa_coverage.specs.Covered.{IsOriginOf, its_coverage}
 use Rattle.ioa_system.specs.declared.log.Log.{Log}
 use Rattle.ioa_system.specs.declared.log.LogEnd.{LogEnd}
 use Rattle.ioa_system.specs.declared.log.LogEntry.{LogEntry}
@@ -42,7 +34,7 @@ use Rattle.ioa_log.specs.LogTexts.{ReadsLog}
 use Rattle.ioa_log.specs.Readings.{IsListReplayed}
 use Rattle.ioa_log.proofs.OneLog.{one_log}
 use Rattle.ioa_serving.specs.AtHand.{failures_of}
-use Rattle.ioa_serving.specs.Coverage.{BeginsCoverageOf, CoversRun, CoversList, CoversLog, IsCoverageFailure, IsNoListOf, IsUncovered, behind, covered_text, of_member_entry, performed_of, table_coverage, told_coverage}
+use Rattle.ioa_serving.specs.Coverage.{BeginsCoverageOf, CoversRun, CoversList, CoversLog, IsCoverageFailure, IsNoListOf, IsUncovered, behind, performed_of, told_coverage}
 use Rattle.ioa_serving.specs.declared.failure.Failure.{Failure}
 use Rattle.ioa_serving.specs.Failing.{IsFailure, IsLogReplayFailure, IsNoLogOf, IsRefusedGiven}
 use Rattle.ioa_serving.specs.Headline.{IsFileOf}
@@ -51,48 +43,10 @@ use Rattle.ioa_serving.specs.Objects.{rendered}
 use Rattle.ioa_serving.proofs.Logged.{performed_are}
 use Rattle.ioa_serving.proofs.Refused.{list_ungiven, log_replay_refused, log_replay_ungiven}
 
--- ---- the entries of a composition
+-- ---- the source that is lent
 
--- the table's entry has the actions of the automaton's
-in_table : (m : Member) (c : MemberCode) (e : EntryTree) (d : EntryCode) (a : Act) → MatchesMember m c → MatchesEntry m e d → is_in c.start.table a d ≡ entry_has m.instance a e
-in_table m c e d a matches h =
-    ap (λ (types : Table). is_in types a d) matches.types
-    ∙ sym (ap (λ (b : Bool). bytes_eq d.name a.name && b) (domains_have m.instance e.positions d.positions a.vals h.positions))
-    ∙ ap (λ (n : Name). bytes_eq n a.name && positions_have m.instance e.positions a.vals) h.name
-
-entry_counted : (acts : List Act) (m : Member) (c : MemberCode) (e : EntryTree) (d : EntryCode) → MatchesMember m c → MatchesEntry m e d → of_code acts c d ≡ of_member_entry acts m e
-entry_counted acts m c e d matches h =
-    let test : (λ (a : Act). is_in c.start.table a d) ≡ (λ (a : Act). entry_has m.instance a e) = fun_ext (λ a. in_table m c e d a matches h) in
-    ap (λ (x : Name). how_often x d.name (count_by (λ a. is_in c.start.table a d) acts)) matches.name
-    ∙ ap (λ (x : Name). how_often m.name x (count_by (λ a. is_in c.start.table a d) acts)) h.name
-    ∙ ap (λ (t : Act → Bool). how_often m.name e.name (count_by t acts)) test
-
-entries_counted : (acts : List Act) (m : Member) (c : MemberCode) → MatchesMember m c → (es : List EntryTree) (ds : List EntryCode) → AllZip (MatchesEntry m) es ds
-    → map (of_code acts c) ds ≡ map (of_member_entry acts m) es
-entries_counted acts m c matches [] [] h = refl
-entries_counted acts m c matches [] (d ∷ ds) h = absurd h
-entries_counted acts m c matches (e ∷ es) [] h = absurd h
-entries_counted acts m c matches (e ∷ es) (d ∷ ds) h =
-    ap₂ (λ (x : Counted) (xs : List Counted). x ∷ xs) (entry_counted acts m c e d matches h.0) (entries_counted acts m c matches es ds h.1)
-
-members_counted : (acts : List Act) (ms : List Member) (cs : List MemberCode) → AllZip MatchesMember ms cs
-    → flat_map (of_member acts) cs ≡ flat_map (λ (m : Member). map (of_member_entry acts m) m.instance.automaton.entries) ms
-members_counted acts [] [] h = refl
-members_counted acts [] (c ∷ cs) h = absurd h
-members_counted acts (m ∷ ms) [] h = absurd h
-members_counted acts (m ∷ ms) (c ∷ cs) h =
-    ap₂ (λ (x y : List Counted). x ++ y) (entries_counted acts m c h.0 m.instance.automaton.entries c.entries h.0.entries) (members_counted acts ms cs h.1)
-
--- ---- what is told of them
-
-pub covered_as : (p : Prog) (s : Subject) (acts : List Act) → RunsAs p s → coverage_text (counted_table p acts) ≡ covered_text s acts
-covered_as p (of_hosts h) acts runs = ap coverage_text (coverage_is_the_hosts p h acts runs)
-covered_as p (of_composition c) acts means = ap coverage_text (members_counted acts c.members p.members means.tables)
-covered_as p (of_table q) acts same = ap (λ (r : Prog). coverage_text (counted_table r acts)) same
-
-pub coverage_same : (p : Prog) (s : Subject) → RunsAs p s → (asked : Bool) (acts : List Act) → table_coverage p asked acts ≡ told_coverage s asked acts
-coverage_same p s runs true acts = ap Some (covered_as p s acts runs)
-coverage_same p s runs false acts = refl
+pub lent : (o : Option (Bor Origin)) (source : Option Origin) (s : Subject) → option_copied o ≡ source → IsOriginOf source s → IsOriginOf (option_copied o) s
+lent o source s is k = subst (λ (x : Option Origin). IsOriginOf x s) (sym is) k
 
 -- ---- how many actions of a list are performed
 
@@ -126,7 +80,7 @@ module _ (p : Prog) (s : Subject) (runs : RunsAs p s) where
   performed_count acts e ends = sym (end_index e) ∙ ap index_of ends ∙ sym (performed_index (its_components s) acts 0 (its_starts s))
 
   pub covers_list : AreTypes p.types → (bytes : List ℕ) (r : Replayed) (told : List ℕ) (entries : List LogEntry) (n : ℕ) → IsListReplayed p s bytes r
-      → ReadsList p.types bytes (entered entries) → n ≡ performed_by r.end → told ≡ coverage_text (counted_table p (entered (take n entries)))
+      → ReadsList p.types bytes (entered entries) → n ≡ performed_by r.end → told ≡ its_coverage s (entered (take n entries) ∷ [])
       → CoversList s bytes (ending_of r.end) (string_bytes r.text) told
   covers_list declared bytes r told entries n k reads count is =
       let acts = k.acts in
@@ -138,7 +92,7 @@ module _ (p : Prog) (s : Subject) (runs : RunsAs p s) where
         k.reads,
         k.ending,
         k.text,
-        is ∙ ap (λ (xs : List Act). coverage_text (counted_table p xs)) first ∙ covered_as p s (performed_of s acts) runs,
+        is ∙ ap (λ (xs : List Act). its_coverage s (xs ∷ [])) first,
       )
 
   pub no_list : (bytes : List ℕ) (x : LogErr) → IsListErr x → (x ≡ LogErr.Io → ⊥) → ((n : ℕ) → x ≡ LogErr.BadEntry n → lists.BadLine p.types bytes n) → IsNoListOf x s bytes
@@ -154,14 +108,14 @@ module _ (p : Prog) (s : Subject) (runs : RunsAs p s) where
 -- ---- a log
 
 module _ (p : Prog) (declared : AreTypes p.types) (bytes : List ℕ) (r : Replayed) (log : Log) (reads : ReadsLog p.types bytes (logged log)) (told : List ℕ) (acts : List Act)
-    (performed : acts ≡ performed_in (logged log)) (is : told ≡ coverage_text (counted_table p acts)) where
-  told_as : (s : Subject) (runs : RunsAs p s) (l : Logged) → ReadsLog (its_types s) bytes l → told ≡ covered_text s (performed_in l)
-  told_as s runs l other =
+    (performed : acts ≡ performed_in (logged log)) where
+  told_as : (s : Subject) (runs : RunsAs p s) (l : Logged) → ReadsLog (its_types s) bytes l → told ≡ its_coverage s (acts ∷ []) → told ≡ its_coverage s (performed_in l ∷ [])
+  told_as s runs l other is =
       let same : logged log ≡ l = one_log p.types bytes (logged log) l declared reads (subst (λ (ts : Table). ReadsLog ts bytes l) (sym (does_as p s runs).types) other) in
-      is ∙ ap (λ (xs : List Act). coverage_text (counted_table p xs)) (performed ∙ ap performed_in same) ∙ covered_as p s (performed_in l) runs
+      is ∙ ap (λ (xs : List Act). its_coverage s (xs ∷ [])) (performed ∙ ap performed_in same)
 
-  pub covers_log : (s : Subject) → RunsAs p s → IsReplayedAs p s bytes r → CoversLog s bytes (ending_of r.end) (string_bytes r.text) told
-  covers_log s runs k = (k.log, k.is_log, k.ending, k.text, told_as s runs k.log k.is_log.0)
+  pub covers_log : (s : Subject) → RunsAs p s → IsReplayedAs p s bytes r → told ≡ its_coverage s (acts ∷ []) → CoversLog s bytes (ending_of r.end) (string_bytes r.text) told
+  covers_log s runs k is = (k.log, k.is_log, k.ending, k.text, told_as s runs k.log k.is_log.0 is)
 
 -- ---- a text at hand does not fail
 
@@ -232,16 +186,16 @@ module _ (text : List ℕ) (name : Option Name) (bytes : Option (List ℕ)) (fai
 
 -- ---- of a run
 
-pub not_asked : (p : Prog) (asked : Bool) (acts : List Act) (before : Option (List ℕ)) → asked ≡ false → before ≡ behind before (table_coverage p asked acts)
-not_asked p false acts None h = refl
-not_asked p false acts (Some text) h = refl
-not_asked p true acts before h = absurd (cc)
+pub not_asked : (s : Subject) (asked : Bool) (runs : List (List Act)) (before : Option (List ℕ)) → asked ≡ false → before ≡ behind before (told_coverage s asked runs)
+not_asked s false runs None h = refl
+not_asked s false runs (Some text) h = refl
+not_asked s true runs before h = absurd (cc)
 
 -- the text is put behind the words before
-pub told_behind : (p : Prog) (asked : Bool) (acts : List Act) (before words : Option (List ℕ)) (text all : List ℕ) → asked ≡ true → before ≡ words
-    → text ≡ coverage_text (counted_table p acts) → Some all ≡ behind before (Some text) → Some all ≡ behind words (table_coverage p asked acts)
-told_behind p true acts before words text all h same is put = put ∙ ap₂ (λ (x y : Option (List ℕ)). behind x y) same (ap Some is)
-told_behind p false acts before words text all h same is put = absurd (cc)
+pub told_behind : (s : Subject) (asked : Bool) (runs : List (List Act)) (before words : Option (List ℕ)) (text all : List ℕ) → asked ≡ true → before ≡ words
+    → text ≡ its_coverage s runs → Some all ≡ behind before (Some text) → Some all ≡ behind words (told_coverage s asked runs)
+told_behind s true runs before words text all h same is put = put ∙ ap₂ (λ (x y : Option (List ℕ)). behind x y) same (ap Some is)
+told_behind s false runs before words text all h same is put = absurd (cc)
 
 -- ---- what a log in memory tells to be performed
 

@@ -11,6 +11,8 @@ use Rattle.ioa_node.specs.Nodes.{Node}
 use Rattle.ioa_compile.specs.Programs.{Prog}
 use Rattle.ioa_compile.specs.Subjects.{RunsAs, Subject}
 use Rattle.ioa_compile.specs.Tables.{tabled}
+use Rattle.ioa_coverage.specs.declared.origin.Origin.{Origin}
+use Rattle.ioa_coverage.specs.Covered.{IsOriginOf}
 use Rattle.ioa_system.specs.declared.log.LogEntry.{LogEntry}
 use Rattle.ioa_system.specs.declared.log.LogEnd.{LogEnd}
 use Rattle.ioa_system.specs.Logs.{Logged, log_end, log_entry, logged}
@@ -33,13 +35,12 @@ use Rattle.ioa_serving.specs.declared.served.Served.{Served}
 use Rattle.ioa_request.specs.declared.settings.Settings.{Settings}
 use Rattle.ioa_serving.specs.declared.status.Status.{Status}
 use Rattle.ioa_serving.specs.Alone.{CameOf, IsCutShort, IsExact, IsReady, IsRunServed, IsRunUnserved, told_of, written}
-use Rattle.ioa_serving.specs.Coverage.{behind, table_coverage}
+use Rattle.ioa_serving.specs.Coverage.{behind, told_coverage}
 use Rattle.ioa_serving.specs.HasRun.{HasRun}
 use Rattle.ioa_serving.specs.Logs.{performed_in}
 use Rattle.ioa_serving.specs.Serving.{reports_of, wants_of}
 use Rattle.ioa_serving.specs.Statuses.{ending_status}
 use Rattle.ioa_serving.specs.Traces.{new_in, performed, ran_text, table_told}
-use Rattle.ioa_serving.proofs.Covering.{coverage_same}
 use Rattle.ioa_serving.proofs.Going.{resumed_as}
 use Rattle.ioa_serving.proofs.Hosted.{inputs_same, is_run, log_of, own_names_same, performed_is, performed_within, text_same, told_by, told_same, wants_same}
 
@@ -62,17 +63,18 @@ one_history h k (Some x) (Some y) e s = let long : length h ≡ length k = cc in
 same_history : (p : Prog) (es : List LogEntry) (end : LogEnd) (ns : List Node) (b d : Standing (List Val)) → IsLogOf p b es end ns → IsLogOf p d es end ns → d.history ≡ b.history
 same_history p es end ns b d k l = one_history d.history b.history d.failure b.failure (sym l.entries ∙ k.entries) (sym l.ends ∙ k.ends)
 
--- the program, its log and its reports, of what the run gave, and what is told beside the reports
-pub has_run : (holds : Name → List ℕ → Type 0) (s : Settings) (r : Ran) (p : Prog) (o : Outcome) (ts : Vec Tally Global) (x : Subject) (script : List Act) (before : Logged) → r.program ≡ p
-    → r.log.entries ≡ o.log → r.log.end ≡ o.end → r.reports ≡ o.reports → r.tallies ≡ ts → r.before ≡ length before.entries → map act_of r.script.items ≡ script → IsTallied p before.entries o ts.items → IsReady holds s x script before → RunsAs p x
+-- the program, its source, its log and its reports, of what the run gave, and what is told beside the reports
+pub has_run : (holds : Name → List ℕ → Type 0) (s : Settings) (r : Ran) (p : Prog) (source : Option Origin) (o : Outcome) (ts : Vec Tally Global) (x : Subject) (script : List Act) (before : Logged) → r.program ≡ p → r.source ≡ source
+    → r.log.entries ≡ o.log → r.log.end ≡ o.end → r.reports ≡ o.reports → r.tallies ≡ ts → r.before ≡ length before.entries → map act_of r.script.items ≡ script → IsTallied p before.entries o ts.items → IsReady holds s x script before → RunsAs p x → IsOriginOf source x
     → (s.turns ≤ most_turns) × All (IsInput (tabled p)) script × HasResumed p before → IsOutcomeFrom p before.entries script s.turns o
     → HaveEnded s.turns (log_end o.end) o.reports.items → IsExact holds s x before script (log_of o.log.items o.end) o.reports.items → HasRun holds s r
-has_run holds s r p o ts x script before of entries end reports tallies began inputs (d, also, goes_too, adds) ready runs fine (b, log, goes, told) ended exact = record {
+has_run holds s r p source o ts x script before of by entries end reports tallies began inputs (d, also, goes_too, adds) ready runs declares fine (b, log, goes, told) ended exact = record {
   subject = x;
   script = script;
   before = before;
   ready = ready;
   runs = subst (λ q. RunsAs q x) (sym of) runs;
+  declares = subst (λ (y : Option Origin). IsOriginOf y x) (sym by) declares;
   turns = fine.0;
   inputs = subst (λ (q : Prog). All (IsInput (tabled q)) script) (sym of) fine.1;
   resumed = subst (λ (q : Prog). HasResumed q before) (sym of) fine.2;
@@ -139,7 +141,7 @@ module _ (holds : Name → List ℕ → Type 0) (s : Settings) (r : Ran) (k : Ha
       as_program false = refl
 
   served_by : (before after telling : Option (List ℕ)) (done : Status) → Appends before after (ran_text s.log r)
-      → telling ≡ behind (table_told s.reports r) (table_coverage r.program s.coverage (performed_in (logged r.log)))
+      → telling ≡ behind (table_told s.reports r) (told_coverage k.subject s.coverage (performed_in (logged r.log) ∷ []))
       → done ≡ ending_status (log_end r.log.end) → IsRunServed holds s before after telling (wants_of (Some r)) done
   served_by before after telling done output told status = record {
     subject = k.subject;
@@ -149,16 +151,18 @@ module _ (holds : Name → List ℕ → Type 0) (s : Settings) (r : Ran) (k : Ha
     tallies = map tally_of r.tallies.items;
     tallied = subst (λ (names : List (List Name)). AddUp (since k.before.entries k.board.history) names r.reports.items (map tally_of r.tallies.items)) (own_names_same r.program k.subject k.runs) k.tallied;
     output = subst (Appends before after) same_text output;
-    told = told ∙ ap₂ behind (tells s.reports) (coverage_same r.program k.subject k.runs s.coverage (performed_in (logged r.log)));
+    told = told ∙ ap (λ (o : Option (List ℕ)). behind o (told_coverage k.subject s.coverage (performed_in (logged r.log) ∷ []))) (tells s.reports);
     wanting = wants_same r.program k.subject k.runs r.reports.items;
     status = status;
   }
 
   -- what comes of its text
   pub served : (before after : Option (List ℕ)) (x : Result Served Failure)
-      → IfOk x (λ d. Appends before after (ran_text s.log r) × (reports_of d ≡ behind (table_told s.reports r) (table_coverage r.program s.coverage (performed_in (logged r.log)))) × (d.status ≡ ending_status (log_end r.log.end)))
+      → IfOk x (λ d. Appends before after (ran_text s.log r)
+      × ((y : Subject) → RunsAs r.program y → IsOriginOf r.source y → reports_of d ≡ behind (table_told s.reports r) (told_coverage y s.coverage (performed_in (logged r.log) ∷ [])))
+      × (d.status ≡ ending_status (log_end r.log.end)))
       → IfOk x (λ d. IsRunServed holds s before after (reports_of d) (wants_of (Some r)) d.status)
-  served before after (Ok d) h = served_by before after (reports_of d) d.status h.0 h.1 h.2
+  served before after (Ok d) h = served_by before after (reports_of d) d.status h.0 (h.1 k.subject k.runs k.declares) h.2
   served before after (Err e) h = tt
 
   pub cut : (lacks : Name → Type 0) (failed : Type 0) (before after : Option (List ℕ)) (x : Result Served Failure) → IfErr x (λ e. IsCutShort (ran_text s.log r) failed before after e)

@@ -26,7 +26,6 @@ use Rattle.ioa_serving.specs.Alone.{CameOf, HaveOwn, IsExact, IsReady, IsUnrun}
 use Rattle.ioa_serving.specs.HasRun.{HasReady}
 use Rattle.ioa_serving.specs.Logs.{answer_to, performed_in}
 use Rattle.ioa_serving.specs.Streams.{key_words}
-use Rattle.ioa_serving.proofs.Covering.{coverage_same}
 use Rattle.ioa_serving.proofs.Given.{key_given}
 use Rattle.ioa_serving.proofs.Going.{resumed_as}
 use Rattle.ioa_serving.proofs.Hosted.{count_same, inputs_same, is_run, log_of}
@@ -40,11 +39,11 @@ use Rattle.ioa_request.specs.declared.seeds.Seeds.{Seeds}
 use Rattle.ioa_request.specs.declared.settings.Settings.{Settings}
 use Rattle.ioa_serving.specs.declared.ready.Ready.{Ready}
 use Rattle.ioa_serving.specs.declared.status.Status.{Status}
-use Rattle.ioa_serving.specs.Coverage.{table_coverage}
+use Rattle.ioa_serving.specs.Coverage.{told_coverage}
 use Rattle.ioa_serving.specs.Devices.{Files}
 use Rattle.ioa_serving.specs.Placing.{log_mark}
 use Rattle.ioa_serving.specs.Seeds.{AreSeedsJudged, AreSown, IsAnswerOf, IsInspected, IsKeptIn, IsSeedJudged, IsSeedsServed, IsSeedsUnserved, IsShortest, IsUnkeepable, Judged, counts_status, monitors_of, performed_by_all, seeds_text, with_seed}
-use Rattle.ioa_serving.specs.SeedRuns.{AreSeedJudgments, HasSown, IsBegun, IsNoneRun, IsSeedJudgment, IsSeedRefused, IsSeedRun, IsSpecification, IsTold, StandsFor, broken_in, table_answer}
+use Rattle.ioa_serving.specs.SeedRuns.{AreSeedJudgments, HasSown, IsBegun, IsNoneRun, IsSeedJudgment, IsSeedRefused, IsSeedRun, IsSpecification, IsTold, StandsFor, asked, broken_in, table_answer}
 use Rattle.ioa_serving.specs.Serving.{run_failure}
 use Rattle.ioa_serving.proofs.SeedsTold.{status_same}
 
@@ -110,7 +109,7 @@ module _ (holds : Name → List ℕ → Type 0) (lacks : Name → Type 0) (s : S
       thread is = cc
 
 -- what the composition breaks, the hosts break
-inspected_as : (asked : Bool) (x : Subject) (c : Option Composition) (log : Logged) (o : Option (Option Broken)) → StandsFor asked x c → o ≡ broken_in c log → IsInspected asked x log o
+inspected_as : (b : Bool) (x : Subject) (c : Option Composition) (log : Logged) (o : Option (Option Broken)) → StandsFor b x c → o ≡ broken_in c log → IsInspected b x log o
 inspected_as false x c log o none is = is ∙ ap (λ d. broken_in d log) none
 inspected_as true (of_hosts h) (Some c) log o stands is = is ∙ ap Some (sym (stands_broken h (composed_of c) stands (actions_of log)))
 inspected_as true (of_hosts h) None log o stands is = absurd stands
@@ -137,7 +136,7 @@ module _ (f : Files) (s : Seeds) (w : Sown) (k : HasSown f.holds s w) (room : If
         same_script = c.1;
         memory = u.run.memory;
         answers = subst (λ (answers : List (Option Ending)). AllZip (IsAnswerOf k.text j.log) (monitors_of s) answers) (sym u.answers) (answers_as k.text j.log (monitors_of s) w.specifications.items k.specified);
-        inspected = inspected_as s.invariants k.ready.subject w.composition j.log j.inspected k.stands u.inspected;
+        inspected = inspected_as s.invariants k.ready.subject (asked w.invariants w.ready.source) j.log j.inspected k.stands u.inspected;
       }
 
   seeds_judged : (n : ℕ) (js : List Judged) → AreSeedJudgments w s.run.turns n js
@@ -165,7 +164,7 @@ module _ (f : Files) (s : Seeds) (w : Sown) (k : HasSown f.holds s w) (room : If
   module _ (old new : Option (List ℕ)) (t : Tally) (js : List Judged) (told : IsTold w s (seeds_text s.json (monitors_of s) s.invariants s.first js) old new t js) where
     -- all is told, and a log is kept, where there is one to be
     pub served : (types : Table) (telling : Option (List ℕ)) (done : Status) → types ≡ w.ready.program.types → IsKeptIn f types (option_copied s.keep) (option_map logged t.shortest)
-        → telling ≡ table_coverage w.ready.program s.run.coverage (performed_by_all js)
+        → telling ≡ told_coverage k.ready.subject s.run.coverage (performed_by_all js)
         → done ≡ counts_status t.counts.fault t.counts.refusals.items t.counts.broken → IsSeedsServed f s old new telling done
     unfolding are_sown
     served types telling done same keeps told_them status = record {
@@ -176,7 +175,7 @@ module _ (f : Files) (s : Seeds) (w : Sown) (k : HasSown f.holds s w) (room : If
       shortest = option_map logged t.shortest;
       is_shortest = told.tallied.1;
       keeps = subst (λ (ts : Table). IsKeptIn f ts (option_copied s.keep) (option_map logged t.shortest)) (same ∙ (does_as w.ready.program k.ready.subject k.ready.runs).types) keeps;
-      told = told_them ∙ coverage_same w.ready.program k.ready.subject k.ready.runs s.run.coverage (performed_by_all js);
+      told = told_them;
       status = status ∙ status_same w s (names_count f.holds s w k) t js told.tallied;
     }
 

@@ -1,5 +1,5 @@
 -- What a run of a composition writes and tells, whose workers take turns on one thread or have a thread each, and why there is none.
-use Rattle.std.specs.Prelude.{◌≡◌, ◌<◌, ◌≤◌, ◌⊎◌, ◌++◌, ℕ, Bool, true, false, List, [], Option, Some, None, Ok, Err, All, length, map, slice_get, take}
+use Rattle.std.specs.Prelude.{◌≡◌, ◌<◌, ◌≤◌, ◌⊎◌, ◌++◌, ◌∷◌, ℕ, Bool, true, false, List, [], Option, Some, None, Ok, Err, All, length, map, slice_get, take}
 use Rattle.std.specs.Io.KnownBytes.{Appends, Keeps}
 use Rattle.std.specs.Option.{option_copied}
 use Rattle.ioa_value.specs.Actions.{Act, Name}
@@ -142,8 +142,8 @@ pub record CameOf (holds : Name → List ℕ → Type 0) (s : Settings) (x : Sub
   pub run : IsRun x before.entries script s.turns log reports
   pub exact : IsExact holds s x before script log reports
 
--- a run's text is written, and its reports, where they are asked for, with tallies that add up to them, and how often each entry was performed, where that is asked
--- for, and the workers to which memory was refused are left to be told
+-- a run's text is written, and its reports, where they are asked for, with tallies that add up to them, and how often each entry was performed and each arm and body
+-- taken, where that is asked for, and the workers to which memory was refused are left to be told
 pub record IsRunServed (holds : Name → List ℕ → Type 0) (s : Settings) (before after : Option (List ℕ)) (telling : Option (List ℕ)) (wants : List ℕ) (done : Status) : Type 0 where
   pub subject : Subject
   pub log : Logged
@@ -152,7 +152,7 @@ pub record IsRunServed (holds : Name → List ℕ → Type 0) (s : Settings) (be
   pub tallies : List (List Tries)
   pub tallied : AddUp (since came.before.entries came.run.history) (its_own_names subject) reports tallies
   pub output : Appends before after (written subject s.log log)
-  pub told : telling ≡ behind (told_of subject s.reports reports (since came.before.entries came.run.history) tallies came.script) (told_coverage subject s.coverage (performed_in log))
+  pub told : telling ≡ behind (told_of subject s.reports reports (since came.before.entries came.run.history) tallies came.script) (told_coverage subject s.coverage (performed_in log ∷ []))
   pub wanting : wants ≡ wants_of_run subject reports
   pub status : done ≡ ending_status log.ending
 

@@ -5,6 +5,7 @@ use Rattle.ioa_value.specs.Plain.{Val}
 use Rattle.ioa_node.specs.Nodes.{Node}
 use Rattle.ioa_compile.specs.Subjects.{RunsAs, Subject}
 use Rattle.ioa_compile.specs.Tables.{IsProgram, tabled}
+use Rattle.ioa_coverage.specs.Covered.{IsOriginOf}
 use Rattle.ioa_board.specs.ProgramRooms.{IsInput}
 use Rattle.ioa_run.specs.Alone.{HasResumed, most_turns}
 use Rattle.ioa_board.specs.Boards.{Standing}
@@ -18,11 +19,12 @@ use Rattle.ioa_serving.specs.declared.run.Ran.{Ran}
 use Rattle.ioa_request.specs.declared.settings.Settings.{Settings}
 use Rattle.ioa_serving.specs.Alone.{AreSources, IsExact, IsReady}
 
--- all was read, and the program does what this subject does
+-- all was read, and the program does what this subject does, which a source declares, where there is one
 pub record HasReady (holds : Name → List ℕ → Type 0) (s : Settings) (r : Ready) : Type 0 where
   pub subject : Subject
   pub ready : IsReady holds s subject (map act_of r.script.items) (logged r.log)
   pub runs : RunsAs r.program subject
+  pub declares : IsOriginOf r.source subject
   pub program : IsProgram r.program
   pub words : AreSources holds s.words (length r.program.members) r.words
 
@@ -34,6 +36,7 @@ pub record HasRun (holds : Name → List ℕ → Type 0) (s : Settings) (r : Ran
   pub before : Logged
   pub ready : IsReady holds s subject script before
   pub runs : RunsAs r.program subject
+  pub declares : IsOriginOf r.source subject
   pub turns : s.turns ≤ most_turns
   pub inputs : All (IsInput (tabled r.program)) script
   pub resumed : HasResumed r.program before

@@ -15,7 +15,8 @@ use Rattle.ioa_compile.specs.Programs.{Prog}
 use Rattle.ioa_compile.specs.Subjects.{Runs, Subject, of_composition, of_hosts, of_table}
 use Rattle.ioa_compile.specs.Tables.{start_states, tabled}
 use Rattle.ioa_coverage.specs.declared.coverage.Coverage.{Coverage}
-use Rattle.ioa_coverage.specs.Counts.{CountsAll}
+use Rattle.ioa_coverage.specs.declared.origin.Origin.{Origin}
+use Rattle.ioa_coverage.specs.Effects.{CoversAll}
 use Rattle.ioa_system.specs.Logs.{Logged, actions_of, log_end, log_entry, logged}
 use Rattle.ioa_system.specs.Outcomes.{ending_of}
 use Rattle.ioa_monitor.specs.Monitoring.{IsSeen, hides, monitored}
@@ -53,6 +54,12 @@ StandsFor true (of_hosts h) None = ⊥
 StandsFor true (of_composition d) c = ⊥
 StandsFor true (of_table p) c = ⊥
 
+-- the composition whose invariants are asked, where they are asked for: that of the source
+abbrev pub asked : Bool → Option Origin → Option Composition
+asked false source = None
+asked true None = None
+asked true (Some x) = Some x.composition
+
 -- all was read, of a file that may hold this text, which has the specifications
 pub record HasSown (holds : Name → List ℕ → Type 0) (s : Seeds) (w : Sown) : Type 0 where
   pub text : List ℕ
@@ -60,7 +67,7 @@ pub record HasSown (holds : Name → List ℕ → Type 0) (s : Seeds) (w : Sown)
   pub ready : HasReady holds s.run w.ready
   pub gives : IsFileOf text (option_copied s.run.composition) ready.subject
   pub specified : AllZip (IsSpecification text) (monitors_of s) w.specifications.items
-  pub stands : StandsFor s.invariants ready.subject w.composition
+  pub stands : StandsFor s.invariants ready.subject (asked w.invariants w.ready.source)
 
 -- ---- one run
 
@@ -93,7 +100,7 @@ pub record IsSeedRun (p : Prog) (before : Logged) (script : List Act) (turns n :
 pub record IsSeedJudgment (w : Sown) (turns n : ℕ) (j : Judged) : Type 0 where
   pub run : IsSeedRun w.ready.program (logged w.ready.log) (map act_of w.ready.script.items) turns n j.log
   pub answers : j.answers ≡ map (table_answer j.log) w.specifications.items
-  pub inspected : j.inspected ≡ broken_in w.composition j.log
+  pub inspected : j.inspected ≡ broken_in (asked w.invariants w.ready.source) j.log
 
 abbrev pub AreSeedJudgments : Sown → ℕ → ℕ → List Judged → Type 0
 AreSeedJudgments w turns n [] = Unit {0}
@@ -117,18 +124,18 @@ pub record IsCountOf (specifications : ℕ) (c : Counts) (js : List Judged) : Ty
 abbrev pub IsTallyOf : ℕ → Tally → List Judged → Type 0
 IsTallyOf specifications t js = IsCountOf specifications t.counts js × IsShortest js (option_map logged t.shortest)
 
--- how often each entry of the program is performed in them is counted, where it is asked for
-abbrev pub IsCovered : Prog → Bool → Option Coverage → List Judged → Type 0
-IsCovered p false o js = o ≡ None
-IsCovered p true None js = ⊥
-IsCovered p true (Some c) js = CountsAll p (performed_by_all js) c
+-- how often each entry of the program is performed in them is counted, and what the effects of its source take, where it is asked for
+abbrev pub IsCovered : Prog → Option Origin → Bool → Option Coverage → List Judged → Type 0
+IsCovered p source false o js = o ≡ None
+IsCovered p source true None js = ⊥
+IsCovered p source true (Some c) js = CoversAll p source (performed_by_all js) c
 
 -- all runs from the first to the last number, which has 64 bits, are counted, and this text of them is written
 pub record IsTold (w : Sown) (s : Seeds) (text : List ℕ) (old new : Option (List ℕ)) (t : Tally) (js : List Judged) : Type 0 where
   pub count : length js ≡ seeds_count s
   pub runs : AreSeedJudgments w s.run.turns s.first js
   pub tallied : IsTallyOf (length w.specifications.items) t js
-  pub covered : IsCovered w.ready.program s.run.coverage t.coverage js
+  pub covered : IsCovered w.ready.program w.ready.source s.run.coverage t.coverage js
   pub within : length js ≤ 2 ^ 64
   pub output : Appends old new text
 

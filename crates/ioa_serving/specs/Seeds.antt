@@ -1,6 +1,6 @@
 -- Runs by many seeds: a line for each, as text or as a JSON object, with its end, with what each specification answers to it that is asked, and with the invariant
 -- that it breaks; how many ended so, how many each specification does not accept, and how many break an invariant; which log is kept; and why they are not all told.
-use Rattle.std.specs.Prelude.{◌≡◌, ◌≤◌, ◌<◌, ◌⊎◌, ◌+◌, ◌-◌, ◌++◌, ◌∷◌, ◌==◌, ◌||◌, not, ℕ, suc, All, Bool, false, true, IfSome, List, [], None, Option, Some, codes, flat_map, if◌then◌else◌, is_some, length, replicate, take}
+use Rattle.std.specs.Prelude.{◌≡◌, ◌≤◌, ◌<◌, ◌⊎◌, ◌+◌, ◌-◌, ◌++◌, ◌∷◌, ◌==◌, ◌||◌, not, ℕ, suc, All, Bool, false, true, IfSome, List, [], None, Option, Some, codes, flat_map, if◌then◌else◌, is_some, length, map, replicate, take}
 use Rattle.std.specs.Fmt.{decimal}
 use Rattle.std.specs.Io.KnownBytes.{Appends, Keeps}
 use Rattle.std.specs.List.{AllZip, count_by, join_by, list_any, zip}
@@ -247,12 +247,12 @@ pub record AreSown (f : Files) (s : Seeds) (js : List Judged) : Type 0 where
   pub runs : AreSeedsJudged f.holds s.run subject text (monitors_of s) s.invariants script s.first js
   pub yields : IfSome (option_copied s.keep) (f.yields log_mark)
 
--- what the runs perform together, one run's actions behind the other's
-abbrev pub performed_by_all : List Judged → List Act
-performed_by_all js = flat_map (λ j. performed_in j.log) js
+-- what each of the runs performs
+abbrev pub performed_by_all : List Judged → List (List Act)
+performed_by_all js = map (λ j. performed_in j.log) js
 
--- each of the runs is told, in their order, and then how many ended so; and a log is kept; and how often each entry is performed in all of them is left to be told,
--- where it is asked for
+-- each of the runs is told, in their order, and then how many ended so; and a log is kept; and how often each entry is performed and each arm and body taken in all of
+-- them is left to be told, where it is asked for
 pub record IsSeedsServed (f : Files) (s : Seeds) (before after : Option (List ℕ)) (telling : Option (List ℕ)) (done : Status) : Type 0 where
   pub judged : List Judged
   pub count : length judged ≡ seeds_count s

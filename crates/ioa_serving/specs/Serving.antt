@@ -59,7 +59,7 @@ run_failure RunErr.OutOfMemory = Failure.OutOfMemory
 -- the file may hold a text such that the list or the log was replayed, in either form, or monitored, or the log of the list's run was written, or the log again, in the
 -- composition that is asked for, the last one where none is, with or without the states in which it ends; or the log was monitored strictly; or the stream was watched by those that are asked for; or the log or the composition was drawn; or that passed the check; or its object was put
 -- in a file; or it was dumped; or a composition was run, or so it was by many seeds, and a log of theirs was kept; or the topic was explained; or the library's text was written. Reports of a run are left to be told, and the
--- workers to which memory was refused; or what the specifications of a watch counted; or how often each entry was performed
+-- workers to which memory was refused; or what the specifications of a watch counted; or how often each entry was performed, and each arm and body taken
 abbrev pub IsServed : Files → Request → Change → Change → Option (List ℕ) → List ℕ → Status → Type 0
 IsServed f (Request.Replay file composition json) input output told wants status =
     (text : List ℕ) × f.holds file.now text

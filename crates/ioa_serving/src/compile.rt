@@ -87,7 +87,11 @@ pub fn program_of(
 ///
 /// # Errors
 /// The bytes are no object, or it is of another composition than the one of this name; or want of memory.
-fn program_in(alloc: Global, bytes: &[u8], composition: Option<&str>) -> Result<Program, Failure>
+pub(crate) fn program_in(
+    alloc: Global,
+    bytes: &[u8],
+    composition: Option<&str>,
+) -> Result<Program, Failure>
     ensures gives { IfOk result (λ p. IsObjectOf bytes.now (option_copied composition.entry) p) }
     ensures refused { IfErr result (λ e. begins_object bytes.now ≡ true → IsRefusedGiven bytes.now (option_copied composition.entry) e) }
 {

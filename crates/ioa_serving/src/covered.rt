@@ -1,4 +1,4 @@
-//! How often entries are performed: of a replay of a list or a log, and of the log of a run.
+//! How often entries are performed, and arms and bodies taken: of a replay of a list or a log, and of the log of a run.
 
 ghost use Rattle.std.specs.Prelude.{◌≡◌, ◌⊎◌, true, false, List, IfOk, IfErr, IfSome, IsErrOf, map, take};
 ghost use Rattle.std.specs.Option.{option_copied};
@@ -10,6 +10,7 @@ ghost use Rattle.ioa_system.specs.Logs.{logged};
 ghost use Rattle.ioa_system.specs.Outcomes as outcomes;
 ghost use Rattle.ioa_system.specs.Outcomes.{ending_of};
 ghost use Rattle.ioa_coverage.specs.Counts.{entered};
+ghost use Rattle.ioa_coverage.specs.Covered.{IsOriginOf};
 ghost use Rattle.ioa_device.specs.declared.failure.LogErr.{LogErr};
 ghost use Rattle.ioa_device.specs.Failing.{FailedOnceAtMost, HasFailed};
 ghost use Rattle.ioa_log.specs.LogTexts.{ReadsLog};
@@ -19,11 +20,11 @@ ghost use Rattle.ioa_serving.specs.Logs.{performed_in};
 ghost use Rattle.ioa_serving.specs.Objects as objects;
 
 use crate::at_hand::AtHand;
-use crate::compile::program_of;
 use crate::failure::Failure;
 use crate::objects::rendered;
+use crate::sourced::sourced_of;
 use ioa_compile::Program;
-use ioa_coverage::coverage_of;
+use ioa_coverage::{Origin, coverage_of};
 use ioa_device::{InputDevice, LogErr, OutputDevice, read_all, send_all};
 use ioa_log::{Log, LogEnd, LogEntry, perform_list, perform_log, read_log};
 use ioa_system::End;
@@ -31,7 +32,8 @@ use ioa_value::{Action, OutOfMemory, Types, read_list};
 use std::alloc::Global;
 
 /// Replays a list of actions, or a log, in a composition of a source, or in an object, by the bytes of both: writes what a replay writes, as JSON objects or not,
-/// and answers how the run ends, and the lines that tell how often each entry was performed in it. The list or the log is kept in memory.
+/// and answers how the run ends, and the lines that tell how often each entry was performed in it and, of a source, each arm and body taken. The list or the log is
+/// kept in memory.
 ///
 /// # Errors
 /// As those of a replay of a list, or of a log. Nothing was written then, or, where a device failed, no more than a beginning of the text.
@@ -54,9 +56,10 @@ pub fn replay_coverage_text<R: InputDevice, W: OutputDevice>(
         → (R.failure_count input.new ≡ R.failure_count input.old) × (W.failure_count output.new ≡ W.failure_count output.old) }
     ensures once { FailedOnceAtMost (R.failure_count input.old) (R.failure_count input.new) × FailedOnceAtMost (W.failure_count output.old) (W.failure_count output.new) }
 {
-    let program = program_of(alloc, text, composition)?;
+    let sourced = sourced_of(alloc, text, composition)?;
     let bytes = read_all(alloc, input)?;
-    let covered = cover(alloc, &program, log, bytes.as_slice())?;
+    let source = sourced.source.as_ref();
+    let covered = cover(alloc, &sourced.program, source, log, bytes.as_slice())?;
     let written = in_form(alloc, json, covered.text, covered.end)?;
     send_all(output, written.as_slice())?;
     Ok((covered.told, covered.end))
@@ -79,26 +82,41 @@ struct Covered {
     end: End,
     /// What a replay writes.
     text: String,
-    /// How often each entry was performed in it.
+    /// How often each entry was performed in it, and each arm and body taken.
     told: String,
 }
 
-/// The run of the log, or of the list, that these bytes are.
-fn cover(alloc: Global, program: &Program, log: bool, bytes: &[u8]) -> Result<Covered, LogErr>
-    ensures ok { IfOk result (λ c. (s : Subject) → RunsAs program.now s → CoversRun log s bytes.now (ending_of c.end) (string_bytes c.text) (string_bytes c.told)) }
+/// The run of the log, or of the list, that these bytes are. Where there is a source, the program runs as it declares.
+fn cover(
+    alloc: Global,
+    program: &Program,
+    source: Option<&Origin>,
+    log: bool,
+    bytes: &[u8],
+) -> Result<Covered, LogErr>
+    requires { (s : Subject) × RunsAs program.now s × IsOriginOf (option_copied source) s }
+    ensures ok { IfOk result (λ c. (s : Subject) → RunsAs program.now s → IsOriginOf (option_copied source.entry) s
+        → CoversRun log s bytes.now (ending_of c.end) (string_bytes c.text) (string_bytes c.told)) }
     ensures refused { IfErr result (λ e. (s : Subject) → RunsAs program.now s → IsUncovered log e s bytes.now) }
     ensures io { IsErrOf result LogErr.Io → ⊥ }
 {
     if log {
-        covered_log(alloc, program, bytes)
+        covered_log(alloc, program, source, bytes)
     } else {
-        covered_list(alloc, program, bytes)
+        covered_list(alloc, program, source, bytes)
     }
 }
 
 /// The run of a list.
-fn covered_list(alloc: Global, program: &Program, bytes: &[u8]) -> Result<Covered, LogErr>
-    ensures ok { IfOk result (λ c. (s : Subject) → RunsAs program.now s → CoversRun false s bytes.now (ending_of c.end) (string_bytes c.text) (string_bytes c.told)) }
+fn covered_list(
+    alloc: Global,
+    program: &Program,
+    source: Option<&Origin>,
+    bytes: &[u8],
+) -> Result<Covered, LogErr>
+    requires { (s : Subject) × RunsAs program.now s × IsOriginOf (option_copied source) s }
+    ensures ok { IfOk result (λ c. (s : Subject) → RunsAs program.now s → IsOriginOf (option_copied source.entry) s
+        → CoversRun false s bytes.now (ending_of c.end) (string_bytes c.text) (string_bytes c.told)) }
     ensures refused { IfErr result (λ e. (s : Subject) → RunsAs program.now s → IsUncovered false e s bytes.now) }
     ensures io { IsErrOf result LogErr.Io → ⊥ }
 {
@@ -106,7 +124,7 @@ fn covered_list(alloc: Global, program: &Program, bytes: &[u8]) -> Result<Covere
     let replayed = perform_list(alloc, program, &mut at_hand)?;
     let entries = list_entries(alloc, program.types(), bytes)?;
     let performed = first_of(entries.as_slice(), performed_by(replayed.end));
-    let told = coverage_of(alloc, program, performed)?;
+    let told = coverage_of(alloc, program, source, performed)?;
     Ok(Covered {
         end: replayed.end,
         text: replayed.text,
@@ -115,15 +133,22 @@ fn covered_list(alloc: Global, program: &Program, bytes: &[u8]) -> Result<Covere
 }
 
 /// The run of a log.
-fn covered_log(alloc: Global, program: &Program, bytes: &[u8]) -> Result<Covered, LogErr>
-    ensures ok { IfOk result (λ c. (s : Subject) → RunsAs program.now s → CoversRun true s bytes.now (ending_of c.end) (string_bytes c.text) (string_bytes c.told)) }
+fn covered_log(
+    alloc: Global,
+    program: &Program,
+    source: Option<&Origin>,
+    bytes: &[u8],
+) -> Result<Covered, LogErr>
+    requires { (s : Subject) × RunsAs program.now s × IsOriginOf (option_copied source) s }
+    ensures ok { IfOk result (λ c. (s : Subject) → RunsAs program.now s → IsOriginOf (option_copied source.entry) s
+        → CoversRun true s bytes.now (ending_of c.end) (string_bytes c.text) (string_bytes c.told)) }
     ensures refused { IfErr result (λ e. (s : Subject) → RunsAs program.now s → IsUncovered true e s bytes.now) }
     ensures io { IsErrOf result LogErr.Io → ⊥ }
 {
     let mut at_hand = AtHand::new(bytes);
     let replayed = perform_log(alloc, program, &mut at_hand)?;
     let log = log_in(alloc, program.types(), bytes)?;
-    let told = coverage_of(alloc, program, performed_entries(&log))?;
+    let told = coverage_of(alloc, program, source, performed_entries(&log))?;
     Ok(Covered {
         end: replayed.end,
         text: replayed.text,

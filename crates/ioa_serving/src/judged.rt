@@ -1,6 +1,7 @@
 //! What specifications answer to a run that is over, of which the log is kept in memory, and which invariant its states break.
 
 ghost use Rattle.std.specs.Prelude.{◌≡◌, IfOk, length, map, option_map};
+ghost use Rattle.std.specs.Option.{option_copied};
 ghost use Rattle.ioa_compile.specs.Tables.{start_states, tabled};
 ghost use Rattle.ioa_system.specs.Outcomes.{ending_of};
 ghost use Rattle.ioa_system.specs.Logs.{logged};
@@ -30,12 +31,12 @@ pub struct JudgedRun {
 pub fn judged(
     alloc: Global,
     specifications: &[Program],
-    composition: &Option<Composition>,
+    composition: Option<&Composition>,
     log: Log,
 ) -> Result<JudgedRun, OutOfMemory>
     ensures log { IfOk result (λ j. (judged_of j).log ≡ logged log) }
     ensures answers { IfOk result (λ j. (judged_of j).answers ≡ map (table_answer (logged log)) specifications.now) }
-    ensures inspected { IfOk result (λ j. (judged_of j).inspected ≡ broken_in composition.now (logged log)) }
+    ensures inspected { IfOk result (λ j. (judged_of j).inspected ≡ broken_in (option_copied composition.entry) (logged log)) }
 {
     let inspected = inspected_in(alloc, composition, &log)?;
     let answers = answers_of(alloc, specifications, &log)?;
@@ -50,10 +51,10 @@ pub fn judged(
 /// log of a run is one of the composition's, which leaves no other error than want of memory.
 fn inspected_in(
     alloc: Global,
-    composition: &Option<Composition>,
+    composition: Option<&Composition>,
     log: &Log,
 ) -> Result<Option<Option<Broken>>, OutOfMemory>
-    ensures { IfOk result (λ inspected. option_map (option_map broken_of) inspected ≡ broken_in composition.now (logged log.now)) }
+    ensures { IfOk result (λ inspected. option_map (option_map broken_of) inspected ≡ broken_in (option_copied composition.entry) (logged log.now)) }
 {
     let Some(composition) = composition else {
         return Ok(None);

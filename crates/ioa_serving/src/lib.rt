@@ -18,6 +18,7 @@ mod composition_graph;
 mod dump;
 mod object_file;
 mod placing;
+mod sourced;
 
 // Lists and logs.
 mod at_hand;

@@ -1,17 +1,19 @@
-//! What a run is given, from files: the program, the words of its workers, its script, and the log from which it goes on.
+//! What a run is given, from files: the program and its source, the words of its workers, its script, and the log from which it goes on.
 
 ghost use Rattle.std.specs.Prelude.{◌≡◌, IfOk, IfErr};
 ghost use Rattle.ioa_compile.specs.Subjects.{RunsAs, Subject};
+ghost use Rattle.ioa_coverage.specs.Covered.{IsOriginOf};
 ghost use Rattle.ioa_serving.specs.Alone.{IsUnrun, MayGive};
 ghost use Rattle.ioa_serving.specs.HasRun.{HasReady};
 
-use crate::compile::program_of;
 use crate::failure::Failure;
 use crate::run_log::load_log;
 use crate::script::load_script;
+use crate::sourced::{Sourced, sourced_of};
 use crate::store::Store;
 use crate::word_sources::{WordSources, load_words};
 use ioa_compile::Program;
+use ioa_coverage::Origin;
 use ioa_log::Log;
 use ioa_request::Settings;
 use ioa_value::Action;
@@ -21,6 +23,8 @@ use std::alloc::Global;
 #[derive(Drop)]
 pub struct Ready {
     pub program: Program,
+    /// The source that declares what is run; of an object none.
+    pub source: Option<Origin>,
     pub words: WordSources,
     pub script: Vec<Action>,
     /// The log from which the run goes on; without a file, that of nothing.
@@ -42,8 +46,8 @@ pub fn load_run<F: Store>(
     ensures refused { IfErr result (λ e. IsUnrun (F.holds store.now) (F.lacks store.now) settings.now e) }
 {
     let text = store.load(alloc, settings.file)?;
-    let program = program_of(alloc, text.as_slice(), settings.composition)?;
-    ready_with(alloc, settings, program, store)
+    let sourced = sourced_of(alloc, text.as_slice(), settings.composition)?;
+    ready_with(alloc, settings, sourced, store)
 }
 
 /// Reads what a run of this program is given besides.
@@ -53,20 +57,22 @@ pub fn load_run<F: Store>(
 pub fn ready_with<F: Store>(
     alloc: Global,
     settings: &Settings<'_>,
-    program: Program,
+    sourced: Sourced,
     store: &F,
 ) -> Result<Ready, Failure>
-    ensures ready { IfOk result (λ r. (x : Subject) → MayGive (F.holds store.now) settings.now x → RunsAs program x
+    ensures ready { IfOk result (λ r. (x : Subject) → MayGive (F.holds store.now) settings.now x → RunsAs sourced.program x → IsOriginOf sourced.source x
         → (k : HasReady (F.holds store.now) settings.now r) × (k.subject ≡ x)) }
-    ensures refused { IfErr result (λ e. (x : Subject) → MayGive (F.holds store.now) settings.now x → RunsAs program x
+    ensures refused { IfErr result (λ e. (x : Subject) → MayGive (F.holds store.now) settings.now x → RunsAs sourced.program x
         → IsUnrun (F.holds store.now) (F.lacks store.now) settings.now e) }
 {
+    let Sourced { program, source } = sourced;
     let components = program.members().len();
     let words = load_words(alloc, settings.words, components, store)?;
     let script = load_script(alloc, program.types(), settings.inputs, store)?;
     let log = load_log(alloc, program.types(), settings.resume, store)?;
     Ok(Ready {
         program,
+        source,
         words,
         script,
         log,

@@ -1,10 +1,12 @@
 //! `run`: from what files hold to a history, of which the trace or the log is written.
 
-ghost use Rattle.std.specs.Prelude.{◌≡◌, ◌≤◌, ◌⊎◌, ℕ, List, Some, true, false, IfOk, IfErr, IsErrOf, OnOk, length, map, take};
+ghost use Rattle.std.specs.Prelude.{◌≡◌, ◌≤◌, ◌⊎◌, ◌∷◌, [], ℕ, List, Some, true, false, IfOk, IfErr, IsErrOf, OnOk, length, map, take};
 ghost use Rattle.std.specs.Io.KnownBytes.{Appends, Keeps};
 ghost use Rattle.std.specs.Option.{option_map};
 ghost use Rattle.std.specs.String.{string_bytes};
 ghost use Rattle.ioa_value.specs.Actions.{act_of};
+ghost use Rattle.ioa_compile.specs.Subjects.{RunsAs, Subject};
+ghost use Rattle.ioa_coverage.specs.Covered.{IsOriginOf};
 ghost use Rattle.ioa_system.specs.Outcomes.{ending_of};
 ghost use Rattle.ioa_system.specs.Logs.{log_end, logged};
 ghost use Rattle.ioa_device.specs.declared.failure.LogErr.{LogErr};
@@ -14,7 +16,7 @@ ghost use Rattle.ioa_board.specs.Outcomes.{HaveEnded};
 ghost use Rattle.ioa_run.specs.TalliedRuns.{IsTallied};
 ghost use Rattle.ioa_board.specs.declared.run_err.RunErr.{RunErr};
 ghost use Rattle.ioa_serving.specs.Alone.{IsCutShort, IsRunServed, IsRunUnserved, IsUnrun, count_of, streams_of};
-ghost use Rattle.ioa_serving.specs.Coverage.{behind, table_coverage};
+ghost use Rattle.ioa_serving.specs.Coverage.{behind, told_coverage};
 ghost use Rattle.ioa_serving.specs.HasRun.{HasRun};
 ghost use Rattle.ioa_serving.specs.Logs.{performed_in};
 ghost use Rattle.ioa_serving.specs.Serving.{reports_of, wants_of};
@@ -33,7 +35,7 @@ use crate::store::Store;
 use crate::trace::trace_text;
 use crate::word_sources::WordSources;
 use ioa_compile::Program;
-use ioa_coverage::coverage_of;
+use ioa_coverage::{Origin, coverage_of};
 use ioa_device::{LogErr, OutputDevice, send_all};
 use ioa_log::{Log, write_log};
 use ioa_node::Words;
@@ -82,16 +84,19 @@ pub fn run_file<H: Threads + Wait + Clock + Sync, F: Store, W: OutputDevice>(
     }
 }
 
-/// Writes the text of a run, and leaves its reports to be told, and how often each entry was performed, where they are asked for.
+/// Writes the text of a run, and leaves its reports to be told, and how often each entry was performed and each arm and body taken, where they are asked for.
 fn serve_run<W: OutputDevice>(
     alloc: Global,
     settings: &Settings<'_>,
     ran: &Ran,
     output: &mut W,
 ) -> Result<Served, Failure>
-    requires { performed ran.now.log.end ≤ length ran.now.log.entries.items }
+    requires within { performed ran.now.log.end ≤ length ran.now.log.entries.items }
+    requires declares { (x : Subject) × RunsAs ran.now.program x × IsOriginOf ran.now.source x }
     ensures served { IfOk result (λ s. Appends (W.contents output.old) (W.contents output.new) (ran_text settings.now.log ran.now)
-        × (reports_of s ≡ behind (table_told settings.now.reports ran.now) (table_coverage ran.now.program settings.now.coverage (performed_in (logged ran.now.log)))) × (s.status ≡ ending_status (log_end ran.now.log.end))) }
+        × ((x : Subject) → RunsAs ran.now.program x → IsOriginOf ran.now.source x
+        → reports_of s ≡ behind (table_told settings.now.reports ran.now) (told_coverage x settings.now.coverage (performed_in (logged ran.now.log) ∷ [])))
+        × (s.status ≡ ending_status (log_end ran.now.log.end))) }
     ensures cut { IfErr result (λ e. IsCutShort (ran_text settings.now.log ran.now) (HasFailed (W.failure_count output.old) (W.failure_count output.new)) (W.contents output.old) (W.contents output.new) e) }
     ensures passed { (IsErrOf result (Failure.List LogErr.Io) → ⊥) → W.failure_count output.new ≡ W.failure_count output.old }
     ensures once { FailedOnceAtMost (W.failure_count output.old) (W.failure_count output.new) }
@@ -108,6 +113,8 @@ fn serve_run<W: OutputDevice>(
 #[derive(Drop)]
 pub struct Ran {
     pub program: Program,
+    /// The source that declares what was run; of an object none.
+    pub source: Option<Origin>,
     pub log: Log,
     pub reports: Vec<Report>,
     /// What became of the turns of each component.
@@ -131,6 +138,7 @@ fn run_settings<H: Threads + Wait + Clock + Sync, F: Store>(
     let ready = load_run(alloc, settings, store)?;
     let Ready {
         program,
+        source,
         words,
         script,
         log,
@@ -147,18 +155,20 @@ fn run_settings<H: Threads + Wait + Clock + Sync, F: Store>(
         &mut tallies,
     )?;
     let before = log.entries.len();
-    Ok(ran_of(program, outcome, tallies, before, script))
+    Ok(ran_of(program, source, outcome, tallies, before, script))
 }
 
 /// The run without the states to which it leads.
 fn ran_of(
     program: Program,
+    source: Option<Origin>,
     outcome: Outcome,
     tallies: Vec<Tally>,
     before: usize,
     script: Vec<Action>,
 ) -> Ran
     ensures program { result.program ≡ program }
+    ensures source { result.source ≡ source }
     ensures entries { result.log.entries ≡ outcome.log }
     ensures end { result.log.end ≡ outcome.end }
     ensures reports { result.reports ≡ outcome.reports }
@@ -174,6 +184,7 @@ fn ran_of(
     } = outcome;
     Ran {
         program,
+        source,
         log: Log { entries: log, end },
         reports,
         tallies,
@@ -256,17 +267,19 @@ fn gate_of<'a, H>(
     Pacer::new(rt, alloc, &groups)
 }
 
-/// The text of the reports with what is told beside them, and behind it how often each entry was performed, where they are to be told.
+/// The text of the reports with what is told beside them, and behind it how often each entry was performed and each arm and body taken, where they are to be told.
 fn told_of(alloc: Global, settings: &Settings<'_>, ran: &Ran) -> Result<Option<String>, OutOfMemory>
-    requires { performed ran.now.log.end ≤ length ran.now.log.entries.items }
-    ensures { IfOk result (λ told. option_map string_bytes told
-        ≡ behind (table_told settings.now.reports ran.now) (table_coverage ran.now.program settings.now.coverage (performed_in (logged ran.now.log)))) }
+    requires within { performed ran.now.log.end ≤ length ran.now.log.entries.items }
+    requires declares { (x : Subject) × RunsAs ran.now.program x × IsOriginOf ran.now.source x }
+    ensures { IfOk result (λ told. (x : Subject) → RunsAs ran.now.program x → IsOriginOf ran.now.source x
+        → option_map string_bytes told ≡ behind (table_told settings.now.reports ran.now) (told_coverage x settings.now.coverage (performed_in (logged ran.now.log) ∷ []))) }
 {
     let reports = told_reports(alloc, settings, ran)?;
     if !settings.coverage {
         return Ok(reports);
     }
-    let coverage = coverage_of(alloc, &ran.program, performed_entries(&ran.log))?;
+    let source = ran.source.as_ref();
+    let coverage = coverage_of(alloc, &ran.program, source, performed_entries(&ran.log))?;
     let told = put_behind(reports, coverage)?;
     Ok(Some(told))
 }

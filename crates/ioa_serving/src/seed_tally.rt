@@ -1,7 +1,9 @@
-//! What is kept of the runs by many seeds that have ended: their counts, how often each entry was performed in them, and the shortest log that is refused.
+//! What is kept of the runs by many seeds that have ended: their counts, how often each entry was performed in them and each arm and body taken, and the shortest log that
+//! is refused.
 
 ghost use Rattle.std.specs.Prelude.{◌≡◌, ◌↔◌, ◌<◌, [], IsTrue, IfOk, IfSome, length, option_map, is_some, true};
 ghost use Rattle.std.specs.List.{list_any};
+ghost use Rattle.std.specs.Option.{option_copied};
 ghost use Rattle.ioa_system.specs.Logs.{logged};
 ghost use Rattle.ioa_serving.specs.SeedRuns.{IsCovered, judged_of};
 ghost use Rattle.ioa_serving.specs.Seeds as spec;
@@ -10,7 +12,7 @@ use crate::covered::performed_entries;
 use crate::judged::JudgedRun;
 use crate::seed_counts::{Counts, is_broken};
 use ioa_compile::Program;
-use ioa_coverage::Coverage;
+use ioa_coverage::{Coverage, Origin};
 use ioa_system::{End, Log};
 use ioa_value::OutOfMemory;
 use std::alloc::Global;
@@ -19,33 +21,39 @@ use std::alloc::Global;
 #[derive(Drop)]
 pub struct Tally<'a> {
     pub counts: Counts,
-    /// How often each entry was performed in them, where it is asked for.
+    /// How often each entry was performed in them and each arm and body taken, where it is asked for.
     pub coverage: Option<Coverage<'a>>,
     /// The log with the fewest entries of the runs that are refused; of those that have as few the first one's.
     pub shortest: Option<Log>,
 }
 
 impl<'a> Tally<'a> {
-    ghost use Rattle.std.specs.Prelude.{◌≡◌, ◌+◌, ◌++◌, ◌<◌, ◌≤◌, ◌^◌, ◌∷◌, [], ℕ, Bool, List, IfOk, OnOk, length, option_map};
+    ghost use Rattle.std.specs.Prelude.{◌≡◌, ◌+◌, ◌++◌, ◌<◌, ◌≤◌, ◌^◌, ◌∷◌, [], ℕ, Bool, List, Option, IfOk, OnOk, length, option_map};
+    ghost use Rattle.std.specs.Option.{option_copied};
     ghost use Rattle.std.specs.String.{string_bytes};
     ghost use Rattle.ioa_system.specs.Logs.{logged};
     ghost use Rattle.ioa_compile.specs.Programs.{Prog};
-    ghost use Rattle.ioa_serving.specs.Coverage.{table_coverage};
+    ghost use Rattle.ioa_compile.specs.Subjects.{RunsAs, Subject};
+    ghost use Rattle.ioa_coverage.specs.declared.origin.Origin.{Origin};
+    ghost use Rattle.ioa_coverage.specs.Covered.{IsOriginOf};
+    ghost use Rattle.ioa_coverage.specs.Performed.{all_of};
+    ghost use Rattle.ioa_serving.specs.Coverage.{told_coverage};
     ghost use Rattle.ioa_serving.specs.Logs.{performed_in};
     ghost use Rattle.ioa_serving.specs.SeedRuns.{IsCountOf, IsCovered, IsTallyOf, judged_of};
     ghost use Rattle.ioa_serving.specs.Seeds.{Judged, performed_by_all};
 
-    /// That of no run of the program, for so many specifications, and with or without counts of the program's entries.
+    /// That of no run of the program, for so many specifications, and with or without counts of the program's entries and of what the effects of its source take.
     pub fn start(
         alloc: Global,
         specifications: usize,
         program: &'a Program,
+        source: Option<&'a Origin>,
         covers: bool,
     ) -> Result<Tally<'a>, OutOfMemory>
         ensures tallied { IfOk result (λ t. IsTallyOf specifications t []) }
-        ensures covered { IfOk result (λ t. IsCovered program.now covers t.coverage []) }
+        ensures covered { IfOk result (λ t. IsCovered program.now (option_copied source.entry) covers t.coverage []) }
     {
-        let coverage = coverage_before(alloc, program, covers)?;
+        let coverage = coverage_before(alloc, program, source, covers)?;
         let counts = Counts::start(alloc, specifications)?;
         Ok(Tally {
             counts,
@@ -54,12 +62,13 @@ impl<'a> Tally<'a> {
         })
     }
 
-    /// Counts how often each entry was performed in one run more, where it is asked for. It asks that all runs together performed fewer than 2^128 actions.
+    /// Counts how often each entry was performed in one run more, and each arm and body taken, where it is asked for. It asks that all runs together performed fewer than
+    /// 2^128 actions, and that the program runs as its source declares.
     pub fn cover(&mut self, alloc: Global, judged: &JudgedRun) -> Result<(), OutOfMemory>
-        requires { (p : Prog) × (asked : Bool) × (js : List Judged) × IsCovered p asked self.old.coverage js
-            × (length (performed_by_all js) + length (performed_in (logged judged.now.log)) < 2 ^ 128) }
-        ensures covered { OnOk result ((p : Prog) (asked : Bool) (js : List Judged) → IsCovered p asked self.old.coverage js
-            → IsCovered p asked self.new.coverage (js ++ judged_of judged.now ∷ [])) }
+        requires { (p : Prog) × (source : Option Origin) × (asked : Bool) × (x : Subject) × (js : List Judged) × IsCovered p source asked self.old.coverage js
+            × RunsAs p x × IsOriginOf source x × (length (all_of (performed_by_all js)) + length (performed_in (logged judged.now.log)) < 2 ^ 128) }
+        ensures covered { OnOk result ((p : Prog) (source : Option Origin) (asked : Bool) (js : List Judged) → IsCovered p source asked self.old.coverage js
+            → IsCovered p source asked self.new.coverage (js ++ judged_of judged.now ∷ [])) }
         ensures counts { self.new.counts ≡ self.old.counts }
         ensures shortest { self.new.shortest ≡ self.old.shortest }
     {
@@ -69,10 +78,10 @@ impl<'a> Tally<'a> {
         coverage.add(alloc, performed_entries(&judged.log))
     }
 
-    /// How often each entry was performed in all of them, where it is asked for.
+    /// How often each entry was performed in all of them, and each arm and body taken, where it is asked for.
     pub fn coverage_text(&self, alloc: Global) -> Result<Option<String>, OutOfMemory>
-        ensures { IfOk result (λ told. (p : Prog) (asked : Bool) (js : List Judged) → IsCovered p asked self.now.coverage js
-            → option_map string_bytes told ≡ table_coverage p asked (performed_by_all js)) }
+        ensures { IfOk result (λ told. (p : Prog) (source : Option Origin) (asked : Bool) (x : Subject) (js : List Judged) → IsCovered p source asked self.now.coverage js
+            → RunsAs p x → IsOriginOf source x → option_map string_bytes told ≡ told_coverage x asked (performed_by_all js)) }
     {
         let Some(coverage) = &self.coverage else {
             return Ok(None);
@@ -97,18 +106,19 @@ impl<'a> Tally<'a> {
     }
 }
 
-/// The counts of the program's entries before any run, where they are asked for.
+/// The counts of the program's entries and of what their effects take before any run, where they are asked for.
 fn coverage_before<'a>(
     alloc: Global,
     program: &'a Program,
+    source: Option<&'a Origin>,
     covers: bool,
 ) -> Result<Option<Coverage<'a>>, OutOfMemory>
-    ensures { IfOk result (λ coverage. IsCovered program.now covers coverage []) }
+    ensures { IfOk result (λ coverage. IsCovered program.now (option_copied source.entry) covers coverage []) }
 {
     if !covers {
         return Ok(None);
     }
-    let coverage = Coverage::start(alloc, program)?;
+    let coverage = Coverage::start(alloc, program, source)?;
     Ok(Some(coverage))
 }
 

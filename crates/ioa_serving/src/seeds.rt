@@ -4,13 +4,15 @@ ghost use Rattle.std.specs.Prelude.{◌≡◌, ◌≢◌, ◌⊎◌, ◌↔◌, 
 ghost use Rattle.std.specs.String.{string_bytes};
 ghost use Rattle.std.specs.Io.KnownBytes.{Appends, Keeps};
 ghost use Rattle.ioa_value.specs.Actions.{act_of};
+ghost use Rattle.ioa_compile.specs.Subjects.{RunsAs, Subject};
+ghost use Rattle.ioa_coverage.specs.Covered.{IsOriginOf};
 ghost use Rattle.ioa_system.specs.Logs.{logged};
 ghost use Rattle.ioa_device.specs.declared.failure.LogErr.{LogErr};
 ghost use Rattle.ioa_device.specs.Failing.{FailedOnceAtMost, HasFailed};
 ghost use Rattle.ioa_request.specs.Pasted.{texts};
 ghost use Rattle.ioa_run.specs.Alone.{NoMemory, RefusesResumed};
 ghost use Rattle.ioa_board.specs.declared.run_err.RunErr.{RunErr};
-ghost use Rattle.ioa_serving.specs.Coverage.{table_coverage};
+ghost use Rattle.ioa_serving.specs.Coverage.{told_coverage};
 ghost use Rattle.ioa_serving.specs.SeedRuns.{IsBegun, IsCovered, IsNoneRun, IsSeedJudgment, IsSeedRefused, IsSeedRun, IsTallyOf, IsTold, judged_of};
 ghost use Rattle.ioa_serving.specs.Devices.{files};
 ghost use Rattle.ioa_serving.specs.Seeds.{IsSeedsServed, IsSeedsUnserved, Judged, monitors_of, performed_by_all, seed_line, seed_lines, seeds_text};
@@ -25,7 +27,7 @@ use crate::seed::seeded;
 use crate::seed_lines::{counts_text, seed_text};
 use crate::seed_tally::Tally;
 use crate::served::Served;
-use crate::sown::{Sown, load_sown};
+use crate::sown::{Sown, asked_of, load_sown};
 use crate::store::Store;
 use ioa_device::{LogErr, OutputDevice, send_all};
 use ioa_log::Log;
@@ -70,7 +72,7 @@ pub fn run_seeds_file<F: Store, W: OutputDevice>(
     })
 }
 
-/// Runs that are told, and how often each entry was performed in them, where that is to be told.
+/// Runs that are told, and how often each entry was performed in them and each arm and body taken, where that is to be told.
 #[derive(Drop)]
 struct Told<'a> {
     tally: Tally<'a>,
@@ -84,9 +86,11 @@ fn tell_all<'a, W: OutputDevice>(
     sown: &'a Sown,
     output: &mut W,
 ) -> Result<Told<'a>, Failure>
-    requires { length sown.now.specifications.items ≡ length seeds.now.monitors.now }
+    requires many { length sown.now.specifications.items ≡ length seeds.now.monitors.now }
+    requires declares { (x : Subject) × RunsAs sown.now.ready.program x × IsOriginOf sown.now.ready.source x }
     ensures told { IfOk result (λ t. (js : List Judged) × IsTold sown.now seeds.now (seeds_text seeds.now.json (monitors_of seeds.now) seeds.now.invariants seeds.now.first js) (W.contents output.old) (W.contents output.new) t.tally js
-        × (option_map string_bytes t.coverage ≡ table_coverage sown.now.ready.program seeds.now.run.coverage (performed_by_all js))) }
+        × ((x : Subject) → RunsAs sown.now.ready.program x → IsOriginOf sown.now.ready.source x
+        → option_map string_bytes t.coverage ≡ told_coverage x seeds.now.run.coverage (performed_by_all js))) }
     ensures refused { IfErr result (λ e. IsNoneRun sown.now seeds.now.run.turns (W.contents output.old) (W.contents output.new) e
         ⊎ IsBegun sown.now seeds.now (HasFailed (W.failure_count output.old) (W.failure_count output.new)) (W.contents output.old) (W.contents output.new) e) }
     ensures passed { (IsErrOf result (Failure.List LogErr.Io) → ⊥) → W.failure_count output.new ≡ W.failure_count output.old }
@@ -112,7 +116,8 @@ fn tell_runs<'a, W: OutputDevice>(
     sown: &'a Sown,
     output: &mut W,
 ) -> Result<Tally<'a>, Failure>
-    requires { length sown.now.specifications.items ≡ length seeds.now.monitors.now }
+    requires many { length sown.now.specifications.items ≡ length seeds.now.monitors.now }
+    requires declares { (x : Subject) × RunsAs sown.now.ready.program x × IsOriginOf sown.now.ready.source x }
     ensures told { IfOk result (λ t. (js : List Judged) × IsTold sown.now seeds.now (seed_lines seeds.now.json (monitors_of seeds.now) seeds.now.first js) (W.contents output.old) (W.contents output.new) t js) }
     ensures refused { IfErr result (λ e. IsNoneRun sown.now seeds.now.run.turns (W.contents output.old) (W.contents output.new) e
         ⊎ IsBegun sown.now seeds.now (HasFailed (W.failure_count output.old) (W.failure_count output.new)) (W.contents output.old) (W.contents output.new) e) }
@@ -132,11 +137,12 @@ fn tell_runs<'a, W: OutputDevice>(
 /// What is kept before the first run.
 fn tally_before(alloc: Global, sown: &Sown, covers: bool) -> Result<Tally<'_>, RunErr>
     ensures counted { IfOk result (λ t. IsTallyOf (length sown.now.specifications.items) t []) }
-    ensures covered { IfOk result (λ t. IsCovered sown.now.ready.program covers t.coverage []) }
+    ensures covered { IfOk result (λ t. IsCovered sown.now.ready.program sown.now.ready.source covers t.coverage []) }
     ensures memory { IfErr result (λ e. e ≡ RunErr.OutOfMemory) }
 {
     let specifications = sown.specifications.len();
-    match Tally::start(alloc, specifications, &sown.ready.program, covers) {
+    let source = sown.ready.source.as_ref();
+    match Tally::start(alloc, specifications, &sown.ready.program, source, covers) {
         Ok(tally) => Ok(tally),
         Err(_) => Err(RunErr::OutOfMemory),
     }
@@ -148,7 +154,7 @@ fn judge_seed(alloc: Global, sown: &Sown, turns: u64, number: u64) -> Result<Jud
     ensures refused { IfErr result (λ e. IsSeedRefused sown.now turns e) }
 {
     let log = run_seed(alloc, &sown.ready, turns, number)?;
-    let judged = judged(alloc, &sown.specifications, &sown.composition, log)?;
+    let judged = judged(alloc, &sown.specifications, asked_of(sown), log)?;
     Ok(judged)
 }
 

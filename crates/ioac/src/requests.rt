@@ -273,7 +273,7 @@ fn replay_invariants<F: Store, R: InputDevice, W: OutputDevice>(
     Ok(silent(status_of_finding(finding)))
 }
 
-/// Replays the list, or the log, on standard input, tells objects or text, and leaves it to be told how often each entry was performed.
+/// Replays the list, or the log, on standard input, tells objects or text, and leaves it to be told how often each entry was performed, and each arm and body taken.
 fn replay_coverage<F: Store, R: InputDevice, W: OutputDevice>(
     alloc: Global,
     file: &str,

@@ -277,6 +277,9 @@ composition One components A: Fold crash down recover up";
 const LOOPS: &str = "\
 --alone --turns 6 --inputs l |  | put(2)^put(5)^down^up | tell(0)^put(2)^tell(0)^put(5)^tell(2)^down^up^tell(0)^tell(7)^end: done after 9^ |  | 0
 --turns 3 |  |  | tell(0)^tell(0)^tell(0)^end: done after 3^ |  | 0
+-- its body is taken once for each item, of many runs in all of them together
+--alone --turns 6 --inputs l --coverage |  | put(2)^put(5)^down^up | tell(0)^put(2)^tell(0)^put(5)^tell(2)^down^up^tell(0)^tell(7)^end: done after 9^ | A: tell: performed 5^A: tell: body 2.1: taken 7^A: put: performed 2^A: down: performed 1^A: up: performed 1^ | 0
+--alone --turns 3 --inputs l --seeds 7..8 --coverage |  | put(2) | 0000000000000000000000000000000000000000000000000000000000000007 end: done after 4^0000000000000000000000000000000000000000000000000000000000000008 end: done after 4^seeds 2; done 2; fault 0^ | A: tell: performed 6^A: tell: body 2.1: taken 4^A: put: performed 2^A: down: never performed^A: up: never performed^ | 0
 ";
 
 /// Four files in memory: the source or the object `f`, the words `w`, the script `l`, and the log `r`.

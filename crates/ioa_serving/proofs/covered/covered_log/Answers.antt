@@ -18,8 +18,9 @@ returns-in_err-replayed-clause-refused c =
     (λ s runs. subst (λ (b : List ℕ). IsNoLog s b x) same (c.in_err-replayed.ensures.refused s runs))
 
 pub returns-clause-ok : goal.returns-clause-ok
-returns-clause-ok c = λ s runs.
+returns-clause-ok c = λ s runs of.
     let same = ap (λ (h : AtHand). h.rest.now) c.new-at_hand.ensures in
     let reads = subst (λ (ts : Table). ReadsLog ts c.args.bytes.now (logged c.in_ok-log.log)) c.types.ensures.value c.in_ok-log.ensures in
-    covers_log c.args.program.now c.types.ensures.sound.types c.args.bytes.now c.in_ok-replayed.replayed c.in_ok-log.log reads _ _ c.performed_entries.ensures c.in_ok-told.ensures.table s runs
+    covers_log c.args.program.now c.types.ensures.sound.types c.args.bytes.now c.in_ok-replayed.replayed c.in_ok-log.log reads _ _ c.performed_entries.ensures s runs
     (subst (λ (b : List ℕ). IsReplayedAs c.args.program.now s b c.in_ok-replayed.replayed) same (c.in_ok-replayed.ensures.ok s runs))
+    (c.in_ok-told.ensures s runs of)

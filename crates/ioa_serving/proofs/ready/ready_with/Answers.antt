@@ -16,7 +16,7 @@ use Rattle.ioa_serving.proofs.ready.ready_with.Goals as goal
 pub returns-in_err-words-clause-refused : goal.returns-in_err-words-clause-refused
 returns-in_err-words-clause-refused g c =
     let e = err_from_is_err_and c.from_residual.result c.from_residual.ensures.1 in
-    let p : Prog = c.args.program in
+    let p : Prog = c.args.sourced.program in
     let count : length c.members-components.result.now ≡ length p.members = sym (length-map c.members-components.result.now member_code) ∙ ap length c.members-components.ensures.value in
     err_so c.from_residual.result e.0 _ _ e.1 e.2
     (λ x gives runs.
@@ -26,7 +26,7 @@ returns-in_err-words-clause-refused g c =
 pub returns-in_err-script-clause-refused : goal.returns-in_err-script-clause-refused
 returns-in_err-script-clause-refused g c =
     let e = err_from_is_err_and c.from_residual-in_err-script.result c.from_residual-in_err-script.ensures.1 in
-    let p : Prog = c.args.program in
+    let p : Prog = c.args.sourced.program in
     let count : length c.members-components.result.now ≡ length p.members = sym (length-map c.members-components.result.now member_code) ∙ ap length c.members-components.ensures.value in
     err_so c.from_residual-in_err-script.result e.0 _ _ e.1 e.2
     (λ x gives runs.
@@ -39,7 +39,7 @@ returns-in_err-script-clause-refused g c =
 pub returns-in_err-log-clause-refused : goal.returns-in_err-log-clause-refused
 returns-in_err-log-clause-refused g c =
     let e = err_from_is_err_and c.from_residual-in_err-log.result c.from_residual-in_err-log.ensures.1 in
-    let p : Prog = c.args.program in
+    let p : Prog = c.args.sourced.program in
     let count : length c.members-components.result.now ≡ length p.members = sym (length-map c.members-components.result.now member_code) ∙ ap length c.members-components.ensures.value in
     err_so c.from_residual-in_err-log.result e.0 _ _ e.1 e.2
     (λ x gives runs.
@@ -52,8 +52,8 @@ returns-in_err-log-clause-refused g c =
     (map act_of c.in_ok-script.script.items, script) c.in_err-log.ensures.refused)
 
 pub returns-clause-ready : goal.returns-clause-ready
-returns-clause-ready g c = λ x gives runs.
-    let p : Prog = c.args.program in
+returns-clause-ready g c = λ x gives runs declares.
+    let p : Prog = c.args.sourced.program in
     let count : length c.members-components.result.now ≡ length p.members = sym (length-map c.members-components.result.now member_code) ∙ ap length c.members-components.ensures.value in
     let words = has_words (g.F.Store.holds c.args.store.now) (g.F.Store.lacks c.args.store.now) c.args.settings.now.words (length c.members-components.result.now) (length (its_names x)) c.in_ok-words.words
     (count ∙ count_same p x runs) c.in_ok-words.ensures.words in
@@ -65,6 +65,7 @@ returns-clause-ready g c = λ x gives runs.
         subject = x;
         ready = record { gives = gives; words = words; inputs = script; log = log };
         runs = runs;
+        declares = declares;
         program = c.members-components.ensures.sound;
         words = subst (λ n. AreSources (g.F.Store.holds c.args.store.now) c.args.settings.now.words n c.in_ok-words.words) count c.in_ok-words.ensures.words;
       },

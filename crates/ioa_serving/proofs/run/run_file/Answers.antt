@@ -2,8 +2,11 @@ use Rattle.ioa_device.specs.Failing.{HasFailed}
 use Rattle.ioa_serving.proofs.RunServed.{cut, served, within}
 use Rattle.ioa_serving.proofs.run.run_file.Goals as goal
 
-pub serve_run-served-requires : goal.serve_run-served-requires
-serve_run-served-requires g c = within _ _ c.in-Ok.ran c.in-Ok.ensures.ran
+pub serve_run-served-requires-clause-within : goal.serve_run-served-requires-clause-within
+serve_run-served-requires-clause-within g c = within _ _ c.in-Ok.ran c.in-Ok.ensures.ran
+
+pub serve_run-served-requires-clause-declares : goal.serve_run-served-requires-clause-declares
+serve_run-served-requires-clause-declares g c = let k = c.in-Ok.ensures.ran in (k.subject, k.runs, k.declares)
 
 pub returns-in-Ok-clause-runs : goal.returns-in-Ok-clause-runs
 returns-in-Ok-clause-runs g c = served _ c.args.settings.now c.in-Ok.ran c.in-Ok.ensures.ran _ _ c.serve_run-served.result c.serve_run-served.ensures.served

@@ -36,7 +36,7 @@ returns-clause-ran g c =
     let script = ap (λ (xs : Vec Action Global). map act_of xs.items) c.ran_of.ensures.script ∙ ap (map act_of) (sym c.as_slice.ensures.value) in
     let items : vec_len r.log.entries ≡ length r.log.entries.items = omega (arith, r.log.entries.ok.0) in
     let began = c.ran_of.ensures.before ∙ c.len-before.ensures ∙ items ∙ sym (length-map r.log.entries.items log_entry) in
-    has_run (g.F.Store.holds c.args.store.now) c.args.settings.now c.ran_of.result r.program c.in_ok-outcome.outcome c.run_sources.new.tallies k.subject (map act_of c.as_slice.result.now) (logged r.log) c.ran_of.ensures.program
-    c.ran_of.ensures.entries c.ran_of.ensures.end c.ran_of.ensures.reports c.ran_of.ensures.tallies began script c.in_ok-outcome.ensures.tallied ready k.runs c.in_ok-outcome.ensures.refused c.in_ok-outcome.ensures.outcome c.in_ok-outcome.ensures.ended
+    has_run (g.F.Store.holds c.args.store.now) c.args.settings.now c.ran_of.result r.program r.source c.in_ok-outcome.outcome c.run_sources.new.tallies k.subject (map act_of c.as_slice.result.now) (logged r.log) c.ran_of.ensures.program c.ran_of.ensures.source
+    c.ran_of.ensures.entries c.ran_of.ensures.end c.ran_of.ensures.reports c.ran_of.ensures.tallies began script c.in_ok-outcome.ensures.tallied ready k.runs k.declares c.in_ok-outcome.ensures.refused c.in_ok-outcome.ensures.outcome c.in_ok-outcome.ensures.ended
     (exactly (g.F.Store.holds c.args.store.now) c.args.settings.now r.program k.subject (logged r.log) (map act_of c.as_slice.result.now) c.in_ok-outcome.outcome r.words (length r.program.members) k.program k.runs
     (count_same r.program k.subject k.runs) k.words c.in_ok-outcome.ensures.alone)

@@ -23,8 +23,11 @@ returns-in_err-ask_keep-clause-refused g c =
     let e = err_from_is_err_and c.from_residual-in_err-ask_keep.result c.from_residual-in_err-ask_keep.ensures.1 in
     err_so c.from_residual-in_err-ask_keep.result e.0 _ _ e.1 e.2 (refl, inl (inr (inr c.in_err-ask_keep.ensures.refused), keeps_same (g.W.Write.contents c.args.output.now)))
 
-pub tell_all-requires : goal.tell_all-requires
-tell_all-requires g c =
+pub tell_all-requires-clause-declares : goal.tell_all-requires-clause-declares
+tell_all-requires-clause-declares g c = let k = c.in_ok-sown.ensures.sown.ready in (k.subject, k.runs, k.declares)
+
+pub tell_all-requires-clause-many : goal.tell_all-requires-clause-many
+tell_all-requires-clause-many g c =
     names_count (g.F.Store.holds c.args.store.now) c.args.seeds.now c.in_ok-sown.sown c.in_ok-sown.ensures.sown ∙ lent_count c.args.seeds.now.monitors.now
 
 pub returns-in_err-told-clause-refused : goal.returns-in_err-told-clause-refused
@@ -49,8 +52,9 @@ pub returns-clause-served : goal.returns-clause-served
 returns-clause-served g c =
     let f : Files = files g.F.Store.holds g.F.Store.lacks g.F.Store.begins g.F.Store.bars g.F.Store.saves c.args.store.now c.keep.new.store in
     let told = c.in_ok-told.ensures.told in
+    let k = c.in_ok-sown.ensures.sown.ready in
     served f c.args.seeds.now c.in_ok-sown.sown c.in_ok-sown.ensures.sown c.in_ok-ask_keep.ensures.ok (g.W.Write.contents c.args.output.now) (g.W.Write.contents c.tell_all.new.output)
-    c.in_ok-told.told.tally told.0 told.1 c.types-types.result.now _ c.status.result c.types-types.ensures.value c.in_ok-keep.ensures.kept told.2 c.status.ensures
+    c.in_ok-told.told.tally told.0 told.1 c.types-types.result.now _ c.status.result c.types-types.ensures.value c.in_ok-keep.ensures.kept (told.2 k.subject k.runs k.declares) c.status.ensures
 
 pub returns-clause-kept : goal.returns-clause-kept
 returns-clause-kept g c =

@@ -48,8 +48,8 @@ loop-number-preserved g c =
       runs = runs_on c.args.sown.now c.args.seeds.now (g.W.Write.contents c.args.output.now) (g.W.Write.contents c.loop-number.output) so.judged c.loop-number.number so.next so.few so.runs so.output j c.in_ok-judged.ensures.judged;
       tallied = c.add.ensures.tallied (length c.args.sown.now.specifications.items) so.judged
           (tally_kept (length c.args.sown.now.specifications.items) so.judged c.loop-number.tally c.cover.new.self c.in_ok-cover.ensures.counts c.in_ok-cover.ensures.shortest so.tallied);
-      covered = covered_kept c.args.sown.now.ready.program c.args.seeds.now.run.coverage judged c.cover.new.self c.add.new.self c.add.ensures.coverage
-          (c.in_ok-cover.ensures.covered c.args.sown.now.ready.program c.args.seeds.now.run.coverage so.judged so.covered);
+      covered = covered_kept c.args.sown.now.ready.program c.args.sown.now.ready.source c.args.seeds.now.run.coverage judged c.cover.new.self c.add.new.self c.add.ensures.coverage
+          (c.in_ok-cover.ensures.covered c.args.sown.now.ready.program c.args.sown.now.ready.source c.args.seeds.now.run.coverage so.judged so.covered);
       bounded = bounded_more so.judged c.in_ok-judged.judged so.bounded;
       output = told_on c.args.sown.now c.args.seeds.now (g.W.Write.contents c.args.output.now) (g.W.Write.contents c.loop-number.output) so.judged c.loop-number.number so.next so.few so.runs so.output j c.in_ok-judged.ensures.judged
           (g.W.Write.contents c.tell_run.new.output) c.in_ok-tell_run.ensures.ok;
@@ -57,7 +57,7 @@ loop-number-preserved g c =
     }
 
 pub tell_run-requires : goal.tell_run-requires
-tell_run-requires g c = answers_count c.args.sown.now c.args.seeds.now.run.turns c.loop-number.number c.in_ok-judged.judged c.in_ok-judged.ensures.judged ∙ c.requires
+tell_run-requires g c = answers_count c.args.sown.now c.args.seeds.now.run.turns c.loop-number.number c.in_ok-judged.judged c.in_ok-judged.ensures.judged ∙ c.requires.many
 
 pub returns-in_err-cover-clause-refused : goal.returns-in_err-cover-clause-refused
 returns-in_err-cover-clause-refused g c =
@@ -83,7 +83,8 @@ cover-requires g c =
     let so = c.loop-number.invariant in
     let less : suc (length so.judged) ≤ seeds_count c.args.seeds.now = omega (arith, so.next) in
     let within : length so.judged < 2 ^ 64 = omega (arith, so.next, less) in
-    (c.args.sown.now.ready.program, c.args.seeds.now.run.coverage, so.judged, so.covered, all_fit so.judged c.in_ok-judged.judged so.bounded within)
+    let k = c.requires.declares in
+    (c.args.sown.now.ready.program, c.args.sown.now.ready.source, c.args.seeds.now.run.coverage, k.0, so.judged, so.covered, k.1, k.2, all_fit so.judged c.in_ok-judged.judged so.bounded within)
 
 pub add-requires-clause-counted : goal.add-requires-clause-counted
 add-requires-clause-counted g c =
@@ -121,9 +122,9 @@ returns-clause-told g c =
           let tallied : IsTallyOf (length c.args.sown.now.specifications.items) w.add.new.self judged =
           w.add.ensures.tallied (length c.args.sown.now.specifications.items) so.judged
           (tally_kept (length c.args.sown.now.specifications.items) so.judged c.loop-number.tally w.cover.new.self w.in_ok-cover.ensures.counts w.in_ok-cover.ensures.shortest so.tallied) in
-          let covered : IsCovered c.args.sown.now.ready.program c.args.seeds.now.run.coverage w.add.new.self.coverage judged =
-          covered_kept c.args.sown.now.ready.program c.args.seeds.now.run.coverage judged w.cover.new.self w.add.new.self w.add.ensures.coverage
-          (w.in_ok-cover.ensures.covered c.args.sown.now.ready.program c.args.seeds.now.run.coverage so.judged so.covered) in (
+          let covered : IsCovered c.args.sown.now.ready.program c.args.sown.now.ready.source c.args.seeds.now.run.coverage w.add.new.self.coverage judged =
+          covered_kept c.args.sown.now.ready.program c.args.sown.now.ready.source c.args.seeds.now.run.coverage judged w.cover.new.self w.add.new.self w.add.ensures.coverage
+          (w.in_ok-cover.ensures.covered c.args.sown.now.ready.program c.args.sown.now.ready.source c.args.seeds.now.run.coverage so.judged so.covered) in (
             judged,
             subst (λ (k : Tally). IsTold c.args.sown.now c.args.seeds.now (lines judged) (g.W.Write.contents c.args.output.now) (g.W.Write.contents c.loop-number-test.output) k judged) (sym w.tally-is)
                 (subst (λ (out : g.row.W.Denot). IsTold c.args.sown.now c.args.seeds.now (lines judged) (g.W.Write.contents c.args.output.now) (g.W.Write.contents out) w.add.new.self judged) (sym w.output-is)

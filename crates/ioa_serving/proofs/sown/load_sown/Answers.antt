@@ -3,9 +3,9 @@ use Rattle.std.specs.Option.{option_copied}
 use Rattle.std.proofs.lemmas.Result.{err_from_is_err_and}
 use Rattle.ioa_compile.specs.Subjects.{Subject}
 use Rattle.ioa_serving.specs.Headline.{IsFileOf}
-use Rattle.ioa_serving.specs.SeedRuns.{StandsFor}
+use Rattle.ioa_serving.specs.SeedRuns.{StandsFor, asked}
 use Rattle.ioa_serving.proofs.Refused.{err_so}
-use Rattle.ioa_serving.proofs.Sowing.{unprogrammed}
+use Rattle.ioa_serving.proofs.Sowing.{stands_too, unprogrammed}
 use Rattle.ioa_serving.proofs.Unrun.{unloaded}
 use Rattle.ioa_serving.proofs.sown.load_sown.Goals as goal
 
@@ -33,12 +33,13 @@ pub returns-clause-sown : goal.returns-clause-sown
 returns-clause-sown g c =
     let held = subst (g.F.Store.holds c.args.store.now c.args.seeds.now.run.file.now) (sym c.as_slice.ensures.value) c.in_ok-text.ensures.ok in
     let of = c.in_ok-programs.ensures.gives in
-    let k = c.in_ok-ready.ensures.ready of.0 (c.as_slice.result.now, held, of.1) of.2 in
+    let k = c.in_ok-ready.ensures.ready of.0 (c.as_slice.result.now, held, of.1) of.2 of.3 in
     record {
       text = c.as_slice.result.now;
       held = held;
       ready = k.0;
       gives = subst (IsFileOf c.as_slice.result.now (option_copied c.args.seeds.now.run.composition)) (sym k.1) of.1;
       specified = c.in_ok-programs.ensures.specified;
-      stands = subst (λ (x : Subject). StandsFor c.args.seeds.now.invariants x c.in_ok-programs.programs.composition) (sym k.1) of.3;
+      stands = stands_too c.args.seeds.now.invariants k.0.subject c.in_ok-programs.programs.sourced.source c.in_ok-ready.ready.source
+          (subst (λ (x : Subject). StandsFor c.args.seeds.now.invariants x (asked c.args.seeds.now.invariants c.in_ok-programs.programs.sourced.source)) (sym k.1) of.4) k.0.declares;
     }

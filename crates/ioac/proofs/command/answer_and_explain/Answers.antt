@@ -60,3 +60,6 @@ returns-clause-passed g c = λ whole.
 
 pub returns-clause-unread : goal.returns-clause-unread
 returns-clause-unread g c = λ none. ap (λ h. h.inner) (c.serve_and_tell-served.ensures.unread none) ∙ c.keep_heard.ensures
+
+pub returns-then-failures-clause-unread : goal.returns-then-failures-clause-unread
+returns-then-failures-clause-unread g c = λ none. ap (λ h. h.inner) (c.serve_and_tell-served.ensures.unread none) ∙ c.keep_heard.ensures

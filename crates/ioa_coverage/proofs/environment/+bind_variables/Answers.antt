@@ -1,0 +1,25 @@
+use Rattle.std.proofs.Common.{◌∙◌, List, ap₂, map}
+use Rattle.std.proofs.lemmas.Result.{on_ok_weaker}
+use Rattle.ioa_value.specs.Plain.{plain}
+use Rattle.ioa_value.specs.declared.value.Value.{Value}
+use Rattle.ioa_tree.specs.declared.tree.Variable.{Variable}
+use Rattle.ioa_tree.specs.Meaning.{over, values_of}
+use Rattle.ioa_tree.specs.Tree.{VariableTree}
+use Rattle.ioa_tree.specs.View.{name_of, variable_of}
+use Rattle.ioa_coverage.specs.Known.{known}
+use Rattle.ioa_coverage.proofs.Naming.{first_and_rest, next_named, rest_of}
+use Rattle.ioa_coverage.proofs.environment.+bind_variables.Goals as goal
+
+pub returns-in_ok-try_copy-in-len1-up-values : goal.returns-in_ok-try_copy-in-len1-up-values
+returns-in_ok-try_copy-in-len1-up-values t c =
+    let xs = c.args.variables.now in
+    let vs = c.args.values.now in
+    let x = c.variable-item.result in
+    let v = c.value-item.result in
+    let old = known c.args.scope.now.items in
+    on_ok_weaker c.bind.result
+    (λ put. next_named (name_of x.field.name) (plain v) (plain c.in_ok-try_copy-in-len1-up-values.field-0) (map (λ (u : VariableTree). u.field.name) (map variable_of (rest_of xs))) (map plain (rest_of vs)) old
+    (known c.bind_variables.new.scope.items) (known c.bind.new.scope.items) c.in_ok-bind_variables-in-len1-up-values.ensures c.in_ok-try_copy-in-len1-up-values.ensures put
+    ∙ ap₂ (λ (ys : List Variable) (ws : List Value). over (values_of (map (λ (u : VariableTree). u.field.name) (map variable_of ys)) (map plain ws)) old)
+    (first_and_rest xs x c.in-len1-up.len_at_least c.variable-item.is) (first_and_rest vs v c.in-len1-up-values.len_at_least c.value-item.is))
+    c.bind.ensures.known
