@@ -1,5 +1,5 @@
--- Which arms of `if` and which bodies of loops an effect takes, and how often over a run. In an effect they have numbers, from 0, as they stand in the text: an arm
--- before what stands in it, and an `else` behind the arms, where it has statements.
+-- Which arms of `if` and which bodies of loops an effect takes, by the meaning of effects (`ioa_tree/specs/Meaning`), and how often over a run. In an effect they have
+-- places, from 0, as they stand in the text: an arm before what stands in it, and an `else` behind the arms, where there is one.
 use Rattle.std.specs.Prelude.{ℕ, ◌+◌, ◌==◌, ◌&&◌, ◌++◌, ◌∷◌, Bool, true, false, List, [], codes, cond, count_by, if◌then◌else◌, slice_get}
 use Rattle.std.specs.Fmt.{decimal}
 use Rattle.std.specs.List.{flat_map}
@@ -38,7 +38,7 @@ abbrev mutual
   places_in stop = 0
   places_in (seq s ss) = places s + places_in ss
 
--- ---- which are taken, in the order in which they are: those of statements of which the first has the number n
+-- ---- the places of those that are taken, in the order in which they are: of statements that begin at place n
 
 -- the one where a condition is true, the other where it is false
 abbrev pub by_condition : Answer → List ℕ → List ℕ → List ℕ
@@ -79,7 +79,7 @@ abbrev mutual
   marks types n (choose arms others) env = marks_of_arms types n arms env (λ m. if_any others (m ∷ marks_in types (m + 1) others env) [])
   marks types n (each x e ss) env = by_items (val types e env) (λ vs. marks_of_turns (marks_in types (n + 1) ss) (eff types ss) n x vs env)
 
-  -- those of the first arm with a true condition, and otherwise the given, by their number
+  -- those of the first arm with a true condition, and otherwise the given, by their place
   pub marks_of_arms : Table → ℕ → Arms → Env → (ℕ → List ℕ) → List ℕ
   marks_of_arms types n no_arm env otherwise = otherwise n
   marks_of_arms types n (arm c ss more) env otherwise =
@@ -125,7 +125,7 @@ taken_in_run h i p e acts = taken_over (hosts_of h) (taken_in i p e) acts (host_
 abbrev pub taken_in_runs : Hosted → ℕ → Host → EntryTree → List (List Act) → List ℕ
 taken_in_runs h i p e runs = flat_map (taken_in_run h i p e) runs
 
--- how often the arm or body of this number is taken
+-- how often the arm or body of this place is taken
 abbrev pub times_taken : Hosted → List (List Act) → ℕ → Host → EntryTree → ℕ → ℕ
 times_taken h runs i p e k = count_by (λ n. n == k) (taken_in_runs h i p e runs)
 
@@ -150,7 +150,7 @@ abbrev mutual
   labels_in before k stop = []
   labels_in before k (seq s ss) = labels (before ++ decimal k) s ++ labels_in before (k + 1) ss
 
--- those of an effect, by number
+-- those of an effect, by their places
 abbrev pub effect_labels : Stmts → List (List ℕ)
 effect_labels ss = labels_in [] 1 ss
 
@@ -187,7 +187,7 @@ row_of_entry c = record { component = c.component; what = c.entry; verb = codes 
 abbrev pub row_of_place : Name → Name → List ℕ → ℕ → Told
 row_of_place component entry label times = record { component = component; what = entry ++ (codes ": " ++ label); verb = codes "taken"; times = times }
 
--- those with numbers from this one on
+-- those of the places from this one on
 abbrev pub rows_of_places : Hosted → List (List Act) → ℕ → Host → EntryTree → ℕ → List (List ℕ) → List Told
 rows_of_places h runs i p e k [] = []
 rows_of_places h runs i p e k (label ∷ more) = row_of_place p.name e.name label (times_taken h runs i p e k) ∷ rows_of_places h runs i p e (k + 1) more

@@ -28,7 +28,7 @@ pub(crate) struct Effect<'a> {
     /// The entry as the source has it, and the statements of its effect.
     pub(crate) declared: &'a Declared,
     pub(crate) statements: &'a [Statement],
-    /// What its arms and bodies are called, by their numbers.
+    /// What its arms and bodies are called, by their places.
     pub(crate) labels: Vec<String>,
     /// How often each of them was taken.
     pub(crate) taken: Vec<u64>,

@@ -20,7 +20,7 @@ use ioa_value::{Fault, OutOfMemory, Types, Value};
 use std::alloc::Global;
 
 /// Follows well typed statements from what names stand for before them to what they leave, or to their fault, and counts each arm and body that
-/// they take, by its number. The first of these has this number.
+/// they take, by its place. The first of these has this place.
 #[cycle(effects)]
 pub(crate) fn follow_all<'a>(
     alloc: Global,
@@ -135,7 +135,7 @@ fn follow_choice<'a>(
     follow_counted(alloc, types, others, place, scope, counts)
 }
 
-/// Follows the statements of an arm or the body of a loop, which has this number, and counts it.
+/// Follows the statements of an arm or the body of a loop, which has this place, and counts it.
 #[cycle(effects)]
 fn follow_counted<'a>(
     alloc: Global,
@@ -216,7 +216,7 @@ fn follow_turn<'a>(
     Ok(Ok(()))
 }
 
-/// One more for this number. A count that has no room for it, which no run lives to see, wants memory.
+/// One more for this place. A count that has no room for it, which no run lives to see, wants memory.
 fn count(counts: &mut [u64], place: usize) -> Result<(), OutOfMemory>
     requires { place < length counts.old }
     ensures { OnOk result (counts.new ≡ one_more counts.old place) }

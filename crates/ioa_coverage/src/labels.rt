@@ -13,7 +13,7 @@ use ioa_value::OutOfMemory;
 use std::alloc::Global;
 use std::fmt::Write;
 
-/// What the arms and bodies of these statements are called, by their numbers.
+/// What the arms and bodies of these statements are called, by their places.
 pub(crate) fn labels_of(alloc: Global, statements: &[Statement]) -> Result<Vec<String>, OutOfMemory>
     ensures { IfOk result (λ labels. map string_bytes labels.items ≡ effect_labels (stmts_of statements.now)) }
 {
