@@ -11,7 +11,7 @@ use Rattle.ioa_compile.specs.Programs.{EntryCode, MemberCode, Prog}
 use Rattle.ioa_compile.specs.Tables.{is_in}
 use Rattle.ioa_system.specs.declared.log.LogEntry.{LogEntry}
 use Rattle.ioa_coverage.specs.declared.coverage.Row.{Row}
-use Rattle.ioa_coverage.specs.Counts.{AreRoomy, IsRoomy, CountRow, told_row, entered, member_rows, rows_of, row_for, count_row, times_in, with_more}
+use Rattle.ioa_coverage.specs.Counts.{AreRoomy, IsRoomy, CountRow, told_row, member_rows, rows_of, row_for, count_row, times_in, with_more}
 use Rattle.ioa_coverage.specs.Performed.{Counted, how_often, counted_table, of_code, of_member}
 
 -- ---- with more actions

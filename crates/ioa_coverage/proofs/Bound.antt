@@ -1,5 +1,5 @@
 -- What names stand for, when one is bound, when one stands for another value, and when one is taken away.
-use Rattle.std.proofs.Common.{◌≡◌, ◌++◌, ◌+◌, ◌-◌, ◌<◌, ◌≤◌, ℕ, zero, suc, Bool, true, false, List, [], ◌∷◌, IsSome, Option, Some, None, ap, arith, cond, drop, get_or, length, length-drop, map, refl, set, subst, sym, take, ◌∙◌}
+use Rattle.std.proofs.Common.{◌≡◌, ◌++◌, ◌+◌, ◌-◌, ◌<◌, ◌≤◌, ℕ, zero, suc, Bool, true, false, List, [], ◌∷◌, IsSome, Option, Some, None, ap, arith, cond, drop, get_or, length, length-drop, refl, set, subst, sym, take, ◌∙◌}
 use Rattle.std.specs.Str.{bytes_eq}
 use Rattle.std.specs.Option.{option_to_list}
 use Rattle.std.proofs.lemmas.List.{length-take, map-append}
@@ -7,11 +7,10 @@ use Rattle.std.proofs.lemmas.Slice.Eq.{bytes_eq-Decides}
 use mathlib.Core.Path.{fun_ext}
 use Rattle.ioa_value.specs.Actions.{Name}
 use Rattle.ioa_value.specs.Plain.{Val, plain}
-use Rattle.ioa_value.specs.declared.value.Value.{Value}
-use Rattle.ioa_tree.specs.Meaning.{Env, or_else, with_name, without}
+use Rattle.ioa_tree.specs.Meaning.{or_else, with_name, without}
 use Rattle.ioa_tree.specs.View.{name_of}
 use Rattle.ioa_coverage.specs.declared.scope.Binding.{Binding}
-use Rattle.ioa_coverage.specs.Known.{IsUnbound, Unbinds, bound, here_or, known, names_in, place_in}
+use Rattle.ioa_coverage.specs.Known.{Unbinds, bound, here_or, known, names_in, place_in}
 
 abbrev pub its_name : Binding → Name
 its_name b = name_of b.name.now

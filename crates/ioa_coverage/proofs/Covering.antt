@@ -1,12 +1,12 @@
 -- All that is counted of runs, before any, with one more, and as it is told.
-use Rattle.std.proofs.Common.{◌≡◌, ◌==◌, ◌+◌, ◌++◌, ◌∷◌, ◌<◌, ℕ, zero, suc, All, List, [], Option, Some, None, ap, ap₂, append_assoc, arith, get_or, length, map, refl, replicate, subst, sym, ◌∙◌}
+use Rattle.std.proofs.Common.{◌≡◌, ◌==◌, ◌+◌, ◌++◌, ◌∷◌, ◌<◌, ℕ, zero, suc, All, List, [], Option, Some, None, ap, ap₂, append_assoc, arith, get_or, length, map, refl, subst, sym, ◌∙◌}
 use Rattle.std.specs.Prelude.{count_by, slice_get}
 use Rattle.std.specs.List.{AllZip, flat_map}
 use Rattle.std.specs.String.{string_bytes}
 use Rattle.std.proofs.lemmas.List.{flat_map_more, length-replicate, map-append}
 use Rattle.std.proofs.lemmas.Simd.{map-map}
 use Rattle.std.proofs.lemmas.List.Elements.{All-head, All-nil, All-cons, All-tail}
-use Rattle.ioa_value.specs.Actions.{Act, Name}
+use Rattle.ioa_value.specs.Actions.{Act}
 use Rattle.ioa_value.specs.Table.{Table}
 use Rattle.ioa_tree.specs.Compositions.{Member}
 use Rattle.ioa_tree.specs.Hosts.{Host, Hosted}

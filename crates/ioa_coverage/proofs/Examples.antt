@@ -1,8 +1,8 @@
 -- How often entries of small components are performed, and which arms and bodies small effects take: each answer is computed.
-use Rattle.std.proofs.Common.{◌≡◌, ◌++◌, ℕ, List, [], ◌∷◌, Bool, true, false, Option, Some, None, codes, map, pos, refl}
+use Rattle.std.proofs.Common.{◌≡◌, ℕ, List, [], ◌∷◌, false, Option, Some, None, codes, map, pos, refl}
 use Rattle.std.specs.Fmt.{digits}
 use Rattle.ioa_value.specs.Actions.{Act, Name}
-use Rattle.ioa_value.specs.Plain.{Val, items, none, more, num, truth}
+use Rattle.ioa_value.specs.Plain.{Val, items, none, more, num}
 use Rattle.ioa_value.specs.Table.{Table, numbers, truths, sequence}
 use Rattle.ioa_value.specs.declared.operator.Op.TheVariants as ops
 use Rattle.ioa_tree.specs.declared.tree.Infix.TheVariants.{Operator}

@@ -1,5 +1,5 @@
 -- Effects that are followed: what is left of statements and of loops, what they take, and what may be followed next.
-use Rattle.std.proofs.Common.{◌≡◌, ◌≢◌, ◌++◌, ◌+◌, ◌≤◌, ℕ, Bool, true, false, IsTrue, List, [], ◌∷◌, Option, Some, None, not, ◌&&◌, ◌||◌, nat_le, nat_lt, option_and_then, OnOk, Result, Ok, Err, ap, arith, cond, length, map, refl, subst, sym, ◌∙◌}
+use Rattle.std.proofs.Common.{◌≡◌, ◌≢◌, ◌++◌, ◌+◌, ℕ, Bool, true, false, IsTrue, List, [], ◌∷◌, Option, Some, None, not, ◌&&◌, ◌||◌, nat_le, nat_lt, option_and_then, OnOk, Result, Ok, Err, ap, cond, length, map, refl, subst, sym, ◌∙◌}
 use Rattle.std.specs.Option.{option_map_or}
 use Rattle.std.specs.Str.{bytes_eq}
 use Rattle.std.proofs.lemmas.Bool.{and_from, and_parts}
@@ -8,8 +8,8 @@ use Rattle.std.proofs.lemmas.Simd.{map-map}
 use Rattle.std.proofs.lemmas.Slice.Eq.{bytes_eq-Decides}
 use Rattle.ioa_arithmetic.specs.declared.arithmetic.Fault.{Fault}
 use Rattle.ioa_value.specs.Actions.{Name}
-use Rattle.ioa_value.specs.Operators.{Answer, IsTypedAnswer, faults, gives, nothing}
-use Rattle.ioa_value.specs.Plain.{Val, Vals, count, items, more as one_item, none as no_item, truth}
+use Rattle.ioa_value.specs.Operators.{IsTypedAnswer, faults, gives}
+use Rattle.ioa_value.specs.Plain.{Val, Vals, count, items, more as one_item, truth}
 use Rattle.ioa_value.specs.Table.{AreTypes, Shape, Table, contains, fields, item_of, item_type, names, numbers, sequence, shape_at, truths, type_named}
 use Rattle.ioa_value.specs.Typing.{HasType, is_of, items_are}
 use Rattle.ioa_value.specs.declared.limits.TheConstants.{LIMITS}
@@ -19,13 +19,13 @@ use Rattle.ioa_tree.specs.Answers.{HasValueOf, IsTypedOutcome, Suits}
 use Rattle.ioa_tree.specs.Instances.{field_names, variable_names}
 use Rattle.ioa_tree.specs.Invariants.{is_true}
 use Rattle.ioa_tree.specs.Meaning.{Env, Outcome, assigned, becomes, breaks, chosen, does, eff, looped, nowhere, picks, then_do, turns, val, with_name, without}
-use Rattle.ioa_tree.specs.Tree.{Arms, AutomatonTree, EntryTree, Expr, FieldTree, Stmt, Stmts, arm, assign, choose, each, no_arm, seq, stop}
+use Rattle.ioa_tree.specs.Tree.{Arms, AutomatonTree, EntryTree, Expr, FieldTree, Stmt, Stmts, arm, assign, choose, each, seq, stop}
 use Rattle.ioa_tree.specs.WellFormed.{Context, arms_fine, context_of, has_ty, held, item_in, local_names, parameter_names, position_fields, scope, scope_in, stmt_fine, stmts_fine, taken, type_in, type_of, variable_fields}
 use Rattle.ioa_tree.proofs.EffectTyped.{some_type, stmts_typed}
 use Rattle.ioa_tree.proofs.ValTyped.{val_typed}
 use Rattle.ioa_coverage.specs.Following.{AreApart, MayBy, MayFollow, MayFollowAll, items_in, left, one_more, turned, with_marks}
 use Rattle.ioa_coverage.specs.Known.{IsTypedIn}
-use Rattle.ioa_coverage.specs.Taken.{by_condition, by_items, if_any, marks, marks_in, marks_of_arms, marks_of_turns, places, places_in, places_of, then_marks}
+use Rattle.ioa_coverage.specs.Taken.{by_condition, by_items, marks, marks_in, marks_of_arms, marks_of_turns, places, places_in, then_marks}
 
 -- ---- what an answer leaves, where it is no fault
 

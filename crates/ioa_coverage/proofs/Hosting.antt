@@ -7,7 +7,7 @@ use mathlib.Core.Path.{fun_ext}
 use Rattle.ioa_value.specs.Actions.{Act, Name}
 use Rattle.ioa_value.specs.Table.{Table}
 use Rattle.ioa_tree.specs.Compositions.{Member}
-use Rattle.ioa_tree.specs.Hosts.{Host, Hosted}
+use Rattle.ioa_tree.specs.Hosts.{Host}
 use Rattle.ioa_tree.specs.Instances.{entry_has, positions_have}
 use Rattle.ioa_tree.specs.Tree.{CrashTree, EntryTree}
 use Rattle.ioa_tree.proofs.Domains.{domains_have}

@@ -1,5 +1,5 @@
 -- Statements of the program that choose or loop, by slices of their parts, and how many arms and bodies they have.
-use Rattle.std.proofs.Common.{◌≡◌, ◌+◌, ◌==◌, ◌<◌, ℕ, Bool, true, false, List, [], ◌∷◌, Vec, Global, ap, arith, length, refl, sym, ◌∙◌}
+use Rattle.std.proofs.Common.{◌≡◌, ◌==◌, ℕ, Bool, true, false, List, [], ◌∷◌, Vec, Global, ap, length, refl, sym, ◌∙◌}
 use Rattle.std.proofs.lemmas.List.{nil_from_length}
 use Rattle.std.proofs.lemmas.Bool.{eqb-true}
 use Rattle.ioa_tree.specs.declared.tree.Arm.{Arm}
@@ -7,10 +7,10 @@ use Rattle.ioa_tree.specs.declared.tree.Expression.{Expression}
 use Rattle.ioa_tree.specs.declared.tree.Name.{Name}
 use Rattle.ioa_tree.specs.declared.tree.Statement.{Statement}
 use Rattle.ioa_tree.specs.declared.tree.Statement.TheVariants.{For, If}
-use Rattle.ioa_tree.specs.Tree.{Stmts, choose, each, stop}
+use Rattle.ioa_tree.specs.Tree.{choose, each, stop}
 use Rattle.ioa_tree.specs.View.{arms_of, expr_of, name_of, stmt_of, stmts_of}
 use Rattle.ioa_tree.proofs.StatementRows.{stmt_chosen, stmt_looped}
-use Rattle.ioa_coverage.specs.Taken.{if_any, places, places_in, places_of}
+use Rattle.ioa_coverage.specs.Taken.{if_any}
 
 pub chosen_at : (s : Statement) (arms : Vec Arm Global) (others : Vec Statement Global) (line : ℕ) (these : List Arm) (those : List Statement) → s ≡ If arms others line → these ≡ arms.items
     → those ≡ others.items → stmt_of s ≡ choose (arms_of these) (stmts_of those)

@@ -1,5 +1,5 @@
 -- What the entries of a source take in the hosts' states is what they take in the slots of a program that does what the hosts do, and may be followed there.
-use Rattle.std.proofs.Common.{◌≡◌, ◌+◌, ◌++◌, ◌∷◌, ◌&&◌, ℕ, zero, suc, All, Bool, true, false, List, [], Option, Some, None, ap, ap₂, arith, cond, length, map, refl, subst, sym, take, ◌∙◌}
+use Rattle.std.proofs.Common.{◌≡◌, ◌+◌, ◌++◌, ◌∷◌, ◌&&◌, ℕ, zero, suc, All, Bool, true, List, [], Option, Some, None, ap, ap₂, arith, cond, length, map, refl, subst, sym, take, ◌∙◌}
 use Rattle.std.specs.Prelude.{slice_get}
 use Rattle.std.specs.List.{AllZip}
 use Rattle.std.specs.Option.{option_map_or}
@@ -10,7 +10,7 @@ use Rattle.std.proofs.lemmas.Option.{slice_get_past}
 use Rattle.std.proofs.lemmas.Slice.Eq.{bytes_eq-Decides}
 use mathlib.Core.Path.{fun_ext}
 use Rattle.ioa_value.specs.Actions.{Act, Name}
-use Rattle.ioa_value.specs.Plain.{Val, truth}
+use Rattle.ioa_value.specs.Plain.{Val}
 use Rattle.ioa_value.specs.Table.{Table}
 use Rattle.ioa_value.specs.Typing.{HaveTypes}
 use Rattle.ioa_value.proofs.ItemLemmas.{find_at}

@@ -1,11 +1,10 @@
 -- The effects of a well formed source's entries may be followed, where variables have values of their types.
-use Rattle.std.proofs.Common.{◌≡◌, ◌++◌, ◌⊎◌, ◌||◌, ℕ, zero, suc, Bool, true, false, cond, inl, inr, IsTrue, List, [], ◌∷◌, length, map, Option, Some, None, refl, sym, ap, subst, ◌∙◌}
-use Rattle.std.specs.Prelude.{find, slice_get}
+use Rattle.std.proofs.Common.{◌≡◌, ◌++◌, ◌⊎◌, ◌||◌, ℕ, zero, suc, Bool, true, false, cond, inl, inr, List, [], ◌∷◌, map, Option, Some, None, refl, sym, ap, subst, ◌∙◌}
+use Rattle.std.specs.Prelude.{slice_get}
 use Rattle.std.specs.List.{list_all, list_any}
 use Rattle.std.specs.Option.{option_map_or}
 use Rattle.std.specs.Str.{bytes_eq}
 use Rattle.std.proofs.lemmas.Bool.{and_parts, true≢false}
-use Rattle.std.proofs.lemmas.List.{map-append}
 use mathlib.Core.Path.{fun_ext}
 use Rattle.ioa_value.specs.Actions.{Act, Name}
 use Rattle.ioa_value.specs.Plain.{Val}
@@ -19,8 +18,8 @@ use Rattle.ioa_tree.specs.Instances.{Fit, Instance, entry_has, environment, fiel
 use Rattle.ioa_tree.specs.Meaning.{Env, or_else, over, values_of}
 use Rattle.ioa_tree.specs.Names.{LegalNames}
 use Rattle.ioa_tree.specs.Tree.{AutomatonTree, EntryTree, FieldTree, InstanceTree, PositionTree, SourceTree, Stmts, TransitionTree, only, stop, typed}
-use Rattle.ioa_tree.specs.Types.{is_named, types_of}
-use Rattle.ioa_tree.specs.WellFormed.{automaton_fine, context_of, distinct, effect_fine, entry_fine, global_names, local_names, matches, parameter_names, same_kind, scope, stmts_fine, transition_fine, variable_fields, well_formed}
+use Rattle.ioa_tree.specs.Types.{is_named}
+use Rattle.ioa_tree.specs.WellFormed.{automaton_fine, context_of, effect_fine, entry_fine, global_names, local_names, matches, parameter_names, same_kind, scope, stmts_fine, variable_fields, well_formed}
 use Rattle.ioa_tree.proofs.FineParts.{EntryParts, FineParts, entry_parts, fine_parts}
 use Rattle.ioa_tree.proofs.SourceTypes.{types_are}
 use Rattle.ioa_tree.proofs.Starts.{suits_of_fit}

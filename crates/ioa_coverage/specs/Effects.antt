@@ -1,5 +1,5 @@
 -- What is kept of entries' effects on their way, and how often their arms and bodies are taken by the states of a program's slots.
-use Rattle.std.specs.Prelude.{◌≡◌, ◌+◌, ◌++◌, ◌∷◌, ◌&&◌, ℕ, All, Bool, true, false, List, [], Option, Some, None, if◌then◌else◌, length, map, replicate, slice_get, take}
+use Rattle.std.specs.Prelude.{◌≡◌, ◌+◌, ◌++◌, ◌∷◌, ◌&&◌, ℕ, All, Bool, true, List, [], Option, Some, None, if◌then◌else◌, length, map, replicate, slice_get, take}
 use Rattle.std.specs.List.{flat_map}
 use Rattle.std.specs.Option.{option_map_or}
 use Rattle.std.specs.String.{string_bytes}
@@ -9,19 +9,16 @@ use Rattle.ioa_value.specs.Plain.{Val, items, name, num, plain, truth, tuple}
 use Rattle.ioa_value.specs.Table.{AreTypes, Table}
 use Rattle.ioa_value.specs.Typing.{HaveTypes}
 use Rattle.ioa_tree.specs.declared.tree.Automaton.{Automaton}
-use Rattle.ioa_tree.specs.Compositions.{Composed, Member, automaton_named}
-use Rattle.ioa_tree.specs.Hosts.{Hosted, IsHosted}
+use Rattle.ioa_tree.specs.Compositions.{Member, automaton_named}
 use Rattle.ioa_tree.specs.Instances.{Instance, environment, state_of, transition_for}
 use Rattle.ioa_tree.specs.Meaning.{Env}
 use Rattle.ioa_tree.specs.Names.{LegalNames}
-use Rattle.ioa_tree.specs.Tree.{AutomatonTree, CompositionTree, EntryTree, SourceTree, Stmts, TransitionTree, stop}
+use Rattle.ioa_tree.specs.Tree.{AutomatonTree, EntryTree, SourceTree, Stmts, TransitionTree, stop}
 use Rattle.ioa_tree.specs.View.{automaton_of, entry_of, stmts_of, tree_of}
 use Rattle.ioa_tree.specs.WellFormed.{WellFormed}
 use Rattle.ioa_compose.specs.Held.{composed_of}
-use Rattle.ioa_compose.specs.Simulates.{Simulates}
 use Rattle.ioa_compile.specs.Programs.{EntryCode, MemberCode, Prog}
 use Rattle.ioa_compile.specs.Shown.{entry_code, member_code}
-use Rattle.ioa_compile.specs.Subjects.{Subject, of_composition, of_hosts, of_table}
 use Rattle.ioa_compile.specs.Tables.{IsProgram, is_in, start_states, tabled}
 use Rattle.ioa_coverage.specs.declared.effect.Effect.{Effect}
 use Rattle.ioa_coverage.specs.declared.origin.Origin.{Origin}
@@ -29,8 +26,8 @@ use Rattle.ioa_coverage.specs.Following.{MayFollowAll, with_marks}
 use Rattle.ioa_coverage.specs.declared.coverage.Coverage.{Coverage}
 use Rattle.ioa_coverage.specs.declared.coverage.Row.{Row}
 use Rattle.ioa_coverage.specs.Counts.{CountsAll, told_row}
-use Rattle.ioa_coverage.specs.Performed.{all_of, counted_table}
-use Rattle.ioa_coverage.specs.Taken.{Told, all_taken_text, effect_labels, marks_in, places_in, row_of_entry, row_of_place, taken_over, told_of}
+use Rattle.ioa_coverage.specs.Performed.{all_of}
+use Rattle.ioa_coverage.specs.Taken.{Told, effect_labels, marks_in, places_in, row_of_entry, row_of_place, taken_over}
 
 -- an entry of a component: its component's number and instance, the entry as the program's table and as the source has it, and the statements of its effect
 pub record EntryEffect : Type 0 where

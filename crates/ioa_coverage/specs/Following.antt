@@ -1,5 +1,5 @@
 -- Effects that are followed over their trees: what may be, what is left, and counts of what is taken.
-use Rattle.std.specs.Prelude.{◌≡◌, ◌+◌, ℕ, Bool, true, false, List, [], ◌∷◌, Option, Some, None, Result, Ok, Err, get_or, slice_set}
+use Rattle.std.specs.Prelude.{◌≡◌, ◌+◌, ℕ, Bool, true, List, [], ◌∷◌, Some, None, Result, Ok, Err, get_or, slice_set}
 use Rattle.ioa_arithmetic.specs.declared.arithmetic.Fault.{Fault}
 use Rattle.ioa_value.specs.Actions.{Name}
 use Rattle.ioa_value.specs.Plain.{Val, Vals, items, name, none, num, truth, tuple}

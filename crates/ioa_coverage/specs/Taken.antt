@@ -6,7 +6,7 @@ use Rattle.std.specs.List.{flat_map}
 use Rattle.std.specs.Option.{option_map_or}
 use Rattle.ioa_value.specs.Actions.{Act, Name}
 use Rattle.ioa_value.specs.Operators.{Answer, faults, gives, nothing}
-use Rattle.ioa_value.specs.Plain.{Val, Vals, items, name, none as no_item, more as one_item, num, truth, tuple}
+use Rattle.ioa_value.specs.Plain.{Vals, items, name, none as no_item, more as one_item, num, truth, tuple}
 use Rattle.ioa_value.specs.Table.{Table}
 use Rattle.ioa_tree.specs.Components.{Component}
 use Rattle.ioa_tree.specs.Hosts.{Host, HostState, Hosted, host_starts, hosts_of}

@@ -10,7 +10,7 @@ use Rattle.ioa_tree.specs.declared.tree.Arm.{Arm}
 use Rattle.ioa_tree.specs.declared.tree.Statement.{Statement}
 use Rattle.ioa_tree.specs.declared.tree.Statement.TheViews.{the_lemmas}
 use Rattle.ioa_tree.specs.Meaning.{Env, Outcome, becomes, breaks, does, eff, picks, then_do, turns, val, with_name, without}
-use Rattle.ioa_tree.specs.Tree.{Stmt, Stmts, arm, choose, each, no_arm, seq, stop}
+use Rattle.ioa_tree.specs.Tree.{Stmt, Stmts, arm, choose, seq, stop}
 use Rattle.ioa_tree.specs.View.{arms_of, expr_of, name_of, stmt_of, stmts_of}
 use Rattle.ioa_coverage.specs.declared.scope.Binding.{Binding}
 use Rattle.ioa_coverage.specs.Following.{KeepsNames, MayFollow, MayFollowAll, left, turned, with_marks}

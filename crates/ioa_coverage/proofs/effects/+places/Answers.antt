@@ -1,4 +1,4 @@
-use Rattle.std.proofs.Common.{◌≡◌, ◌+◌, ◌<◌, ap, arith, length, refl, rules}
+use Rattle.std.proofs.Common.{◌≡◌, ◌+◌, ◌<◌, ap, arith, refl, rules}
 use Rattle.ioa_tree.specs.Tree.{Stmts}
 use Rattle.ioa_tree.specs.View.{arms_of, stmt_of, stmts_of}
 use Rattle.ioa_tree.specs.declared.tree.Statement.TheViews.{the_lemmas}

@@ -1,4 +1,4 @@
-use Rattle.std.proofs.Common.{◌∙◌, List, ap, sym}
+use Rattle.std.proofs.Common.{◌∙◌, ap, sym}
 use Rattle.ioa_value.specs.Plain.{plain, plain_all}
 use Rattle.ioa_value.specs.declared.value.Value.{Value}
 use Rattle.ioa_value.proofs.PlainLemmas.{plain-Items}

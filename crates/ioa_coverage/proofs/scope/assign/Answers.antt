@@ -1,4 +1,4 @@
-use Rattle.std.proofs.Common.{◌≡◌, ◌∙◌, ◌<◌, List, Some, ap, arith, length, refl, subst, sym}
+use Rattle.std.proofs.Common.{◌≡◌, ◌∙◌, List, Some, ap, arith, refl, sym}
 use Rattle.ioa_coverage.specs.declared.scope.Binding.{Binding}
 use Rattle.ioa_coverage.specs.Known.{known, place_in}
 use Rattle.ioa_coverage.proofs.Bound.{known_nowhere, place_within, renewed, renewed_names, same_name}

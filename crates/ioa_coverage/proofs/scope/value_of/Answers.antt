@@ -1,4 +1,4 @@
-use Rattle.std.proofs.Common.{◌≡◌, ◌<◌, ◌∙◌, Some, ap, length, rules, sym}
+use Rattle.std.proofs.Common.{◌<◌, ◌∙◌, Some, ap, length, rules, sym}
 use Rattle.ioa_value.specs.Plain.{plain}
 use Rattle.ioa_coverage.specs.declared.scope.Binding.{Binding}
 use Rattle.ioa_coverage.proofs.Bound.{known_at, known_nowhere, place_within}

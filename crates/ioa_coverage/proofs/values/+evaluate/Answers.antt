@@ -1,4 +1,4 @@
-use Rattle.std.proofs.Common.{◌≡◌, IfOk, Ok, [], ◌∷◌, drop, ◌+◌, refl, ap, sym, ◌∙◌, arith, map, subst}
+use Rattle.std.proofs.Common.{◌≡◌, IfOk, [], ◌∷◌, drop, ◌+◌, refl, ap, sym, ◌∙◌, arith, map, subst}
 use Rattle.ioa_value.specs.Plain.{plain}
 use Rattle.std.proofs.lemmas.List.{map-append}
 use Rattle.ioa_value.proofs.ItemLemmas.{passes_at}
