@@ -1,5 +1,5 @@
 -- What is told of entries, and of arms and bodies, over what a list or a log in memory tells to be performed, and over a run.
-use Rattle.std.proofs.Common.{◌≡◌, ◌⊎◌, ◌+◌, ◌∙◌, ◌≤◌, ◌<◌, ◌-◌, ◌^◌, ◌∷◌, ◌++◌, ℕ, Bool, true, false, List, [], Option, None, Some, IfSome, ap, ap₂, arith, if◌then◌else◌, inl, inr, length, map, refl, subst, sym, take}
+use Rattle.std.proofs.Common.{◌≡◌, ◌⊎◌, ◌+◌, ◌∙◌, ◌-◌, ◌∷◌, ℕ, Bool, true, false, List, [], Option, None, Some, IfSome, ap, ap₂, arith, if◌then◌else◌, inl, inr, length, refl, subst, sym, take}
 use Rattle.std.specs.Borrow.{Bor}
 use Rattle.std.specs.Io.KnownBytes.{Appends}
 use Rattle.std.specs.Option.{option_copied}
@@ -24,7 +24,7 @@ use Rattle.ioa_system.specs.declared.log.Log.{Log}
 use Rattle.ioa_system.specs.declared.log.LogEnd.{LogEnd}
 use Rattle.ioa_system.specs.declared.log.LogEntry.{LogEntry}
 use Rattle.ioa_system.specs.declared.outcomes.End.{End}
-use Rattle.ioa_system.specs.Logs.{Logged, actions_of, is_fault, log_end, logged}
+use Rattle.ioa_system.specs.Logs.{Logged, is_fault, log_end, logged}
 use Rattle.ioa_system.specs.Outcomes.{ending_of, performed_by}
 use Rattle.ioa_device.specs.declared.failure.LogErr.{LogErr}
 use Rattle.ioa_device.specs.Failing.{FailedOnceAtMost, HasFailed, IsListErr}

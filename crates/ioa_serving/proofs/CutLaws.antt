@@ -1,5 +1,5 @@
 -- What is said by what is taken of a list or of a log.
-use Rattle.std.proofs.Common.{◌≡◌, ◌==◌, ◌<◌, ◌≤◌, ◌+◌, ◌-◌, ◌^◌, inl, inr, zero, suc, ℕ, Bool, true, false, if◌then◌else◌, List, [], ◌∷◌, ◌++◌, length, take, refl, sym, ap, subst, ◌∙◌, append_assoc, append-nil, length-append, arith}
+use Rattle.std.proofs.Common.{◌≡◌, ◌==◌, ◌<◌, ◌≤◌, ◌+◌, ◌-◌, inl, inr, zero, suc, ℕ, Bool, true, false, if◌then◌else◌, List, [], ◌∷◌, ◌++◌, length, take, refl, sym, ap, subst, ◌∙◌, append_assoc, append-nil, length-append, arith}
 use Rattle.std.specs.Prelude.{nat_lt}
 use Rattle.std.specs.List.{AllZip, onto_first}
 use Rattle.std.proofs.lemmas.Bool.{eqb-true, false≢true}
@@ -8,14 +8,13 @@ use Rattle.std.proofs.lemmas.List.Elements.{All-nil}
 use Rattle.ioa_value.specs.Actions.{Act}
 use Rattle.ioa_value.specs.Lists.{ReadsLines, is_skipped, lines}
 use Rattle.ioa_value.specs.Reads.{Reads}
-use Rattle.ioa_value.specs.Table.{AreTypes, Table}
+use Rattle.ioa_value.specs.Table.{Table}
 use Rattle.ioa_value.proofs.SkippedLemmas.{unread}
 use Rattle.ioa_tree.specs.Runs.{done}
-use Rattle.ioa_system.specs.Logs.{Logged}
 use Rattle.ioa_device.specs.LineReading.{IsLineText}
 use Rattle.ioa_device.proofs.LineReading.{lines_line}
 use Rattle.ioa_log.specs.LogLines.{IsEntryLine, end_line}
-use Rattle.ioa_log.specs.LogTexts.{IsLegal, ReadsLog}
+use Rattle.ioa_log.specs.LogTexts.{IsLegal}
 use Rattle.ioa_log.proofs.WrittenLogs.{written_log_read}
 use Rattle.ioa_serving.proofs.Cutting.{take_whole}
 use Rattle.ioa_serving.specs.Cuts.{CutsLists, CutsLogs, KeepsShortLogs, cut_log, first_listed, left_after, text_of}

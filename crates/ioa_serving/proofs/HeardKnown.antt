@@ -1,5 +1,5 @@
 -- A specification that hears those of some actions that its components have.
-use Rattle.std.proofs.Common.{◌≡◌, ◌≤◌, ◌<◌, ◌-◌, ◌^◌, ◌∙◌, ◌++◌, ◌∷◌, [], ◌+◌, ◌==◌, ℕ, Bool, true, false, not, cond, List, ap, arith, filter, length, length-append, refl, subst, sym, append-nil}
+use Rattle.std.proofs.Common.{◌≡◌, ◌≤◌, ◌∙◌, ◌++◌, ◌∷◌, [], ◌+◌, ℕ, Bool, true, false, not, cond, List, ap, arith, filter, length, length-append, append-nil}
 use Rattle.std.specs.List.{list_any}
 use Rattle.std.proofs.lemmas.List.Elements.{filter-append}
 use Rattle.std.proofs.lemmas.List.Sums.{count_by-le-length, length-filter}
@@ -8,10 +8,9 @@ use Rattle.ioa_value.specs.Plain.{Val}
 use Rattle.ioa_tree.specs.Components.{has}
 use Rattle.ioa_compile.specs.Programs.{Prog}
 use Rattle.ioa_compile.specs.Tables.{tabled}
-use Rattle.ioa_watch.specs.declared.watcher.Watcher.{Watcher}
 use Rattle.ioa_watch.specs.Names.{names_of}
 use Rattle.ioa_watch.specs.Watched.{Watching}
-use Rattle.ioa_watch.specs.Watchers.{HasHeard, heard_by, names_in, watching_of}
+use Rattle.ioa_watch.specs.Watchers.{heard_by, names_in, watching_of}
 use Rattle.ioa_watch.proofs.Watchers.{heard_few}
 use Rattle.ioa_serving.specs.declared.log_counts.Known.{Known}
 use Rattle.ioa_serving.specs.Counting.{taken_text}

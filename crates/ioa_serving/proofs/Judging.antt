@@ -1,9 +1,9 @@
 -- What specifications answer to a log, action by action.
-use Rattle.std.proofs.Common.{◌≡◌, ◌⊎◌, ◌∙◌, ◌+◌, ◌-◌, ◌<◌, ◌≤◌, ◌++◌, ◌∷◌, [], ℕ, zero, suc, Bool, true, false, if◌then◌else◌, List, Option, Some, None, ap, ap₂, arith, drop, get_or, inl, inr, length, map, refl, subst, sym, take}
+use Rattle.std.proofs.Common.{◌≡◌, ◌⊎◌, ◌∙◌, ◌+◌, ◌-◌, ◌<◌, ◌≤◌, ◌++◌, ◌∷◌, [], ℕ, zero, suc, Bool, true, false, if◌then◌else◌, List, Option, None, ap, ap₂, arith, drop, get_or, inl, inr, length, map, refl, subst, sym, take}
 use Rattle.std.proofs.lemmas.List.{length-map, length-take-le, map-append, take_more}
 use Rattle.ioa_value.specs.Actions.{Act, act_of}
 use Rattle.ioa_compile.specs.Programs.{Prog}
-use Rattle.ioa_compile.specs.Tables.{start_states, tabled}
+use Rattle.ioa_compile.specs.Tables.{tabled}
 use Rattle.ioa_value.specs.Plain.{Val}
 use Rattle.ioa_tree.specs.Runs.{Ending}
 use Rattle.ioa_system.specs.declared.log.Log.{Log}
@@ -16,7 +16,7 @@ use Rattle.ioa_account.proofs.Remarking.{entered}
 use Rattle.ioa_monitor.specs.Monitoring.{monitored_from}
 use Rattle.ioa_monitor.proofs.Monitored.{by_answer}
 use Rattle.ioa_serving.specs.Logs.{performed_in}
-use Rattle.ioa_serving.proofs.Logged.{performed_are, performed_by}
+use Rattle.ioa_serving.proofs.Logged.{performed_are}
 
 take_at : {X : Type 0} (n : ℕ) (xs : List X) (i : ℕ) (d : X) → i < length (take n xs) → get_or (take n xs) i d ≡ get_or xs i d
 take_at zero xs i d lt = absurd (omega arith)

@@ -1,5 +1,5 @@
 -- The hosts that a source declares are over its types.
-use Rattle.std.proofs.Common.{◌≡◌, ℕ, zero, suc, List, [], ◌∷◌, Some, refl, sym, ap, ◌∙◌}
+use Rattle.std.proofs.Common.{◌≡◌, ℕ, zero, suc, List, [], ◌∷◌, Some, sym, ap, ◌∙◌}
 use Rattle.std.specs.Prelude.{slice_get}
 use Rattle.ioa_tree.specs.Hosts.{AreHosts, Host, Hosted, IsHosted}
 use Rattle.ioa_tree.specs.Tree.{CompositionTree, InstanceTree, SourceTree}

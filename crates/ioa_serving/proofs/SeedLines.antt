@@ -1,5 +1,5 @@
 -- Lines, runs and counts that grow by one run.
-use Rattle.std.proofs.Common.{◌≡◌, ◌≢◌, ◌∙◌, ◌+◌, ◌-◌, ◌++◌, ◌∷◌, ◌<◌, ◌≤◌, ◌^◌, ℕ, suc, zero, Bool, true, false, cond, if◌then◌else◌, not, All, List, [], Option, None, Some, Ok, Err, ap, ap₂, append_assoc, append-nil, arith, drop, get_or, length, length-append, map, option_map, refl, replicate, set, slice_get, subst, sym, take}
+use Rattle.std.proofs.Common.{◌≡◌, ◌≢◌, ◌∙◌, ◌+◌, ◌++◌, ◌∷◌, ◌<◌, ◌≤◌, ℕ, suc, zero, Bool, true, false, cond, if◌then◌else◌, not, All, List, [], Option, None, Some, Ok, Err, ap, ap₂, append_assoc, append-nil, arith, drop, get_or, length, map, option_map, refl, replicate, set, slice_get, subst, sym, take}
 use Rattle.std.specs.List.{count_by}
 use Rattle.std.specs.Prelude.{is_some}
 use Rattle.std.proofs.Math.Seq.{take-append_seam}

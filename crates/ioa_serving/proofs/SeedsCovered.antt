@@ -1,5 +1,5 @@
 -- How often entries are performed in runs by many seeds, and arms and bodies taken, when one more has ended.
-use Rattle.std.proofs.Common.{◌≡◌, ◌∙◌, ◌+◌, ◌*◌, ◌++◌, ◌∷◌, ◌<◌, ◌≤◌, ◌^◌, ◌-◌, ℕ, Bool, true, false, if◌then◌else◌, List, [], Option, None, Some, ap, arith, append-nil, length, length-append, map, option_map, refl, subst, sym, take}
+use Rattle.std.proofs.Common.{◌≡◌, ◌∙◌, ◌+◌, ◌*◌, ◌++◌, ◌∷◌, ◌<◌, ◌≤◌, ◌^◌, ◌-◌, ℕ, Bool, true, false, if◌then◌else◌, List, [], Option, None, Some, ap, arith, append-nil, length, length-append, option_map, refl, subst, sym, take}
 use Rattle.std.proofs.lemmas.Grind.{flat_map-append}
 use Rattle.std.proofs.lemmas.List.{length-map, length-take-le, map-append}
 use Rattle.ioa_value.specs.Actions.{Act, act_of}
@@ -21,7 +21,7 @@ use Rattle.ioa_serving.specs.Coverage.{told_coverage}
 use Rattle.ioa_serving.specs.Logs.{performed_in}
 use Rattle.ioa_serving.specs.SeedRuns.{IsCountOf, IsCovered, IsTallyOf, judged_of}
 use Rattle.ioa_serving.specs.Seeds.{IsShortest, Judged, performed_by_all}
-use Rattle.ioa_serving.proofs.Logged.{performed_are, performed_by}
+use Rattle.ioa_serving.proofs.Logged.{performed_are}
 
 -- one run more
 pub performed_more : (js : List Judged) (j : Judged) → performed_by_all (js ++ j ∷ []) ≡ performed_by_all js ++ performed_in j.log ∷ []

@@ -43,7 +43,7 @@ use Rattle.ioa_serving.specs.Coverage.{told_coverage}
 use Rattle.ioa_serving.specs.Devices.{Files}
 use Rattle.ioa_serving.specs.Placing.{log_mark}
 use Rattle.ioa_serving.specs.Seeds.{AreSeedsJudged, AreSown, IsAnswerOf, IsInspected, IsKeptIn, IsSeedJudged, IsSeedsServed, IsSeedsUnserved, IsShortest, IsUnkeepable, Judged, counts_status, monitors_of, performed_by_all, seeds_text, with_seed}
-use Rattle.ioa_serving.specs.SeedRuns.{AreSeedJudgments, HasSown, IsBegun, IsNoneRun, IsSeedJudgment, IsSeedRefused, IsSeedRun, IsSpecification, IsTold, StandsFor, asked, broken_in, table_answer}
+use Rattle.ioa_serving.specs.SeedRuns.{AreSeedJudgments, HasSown, IsBegun, IsNoneRun, IsSeedJudgment, IsSeedRun, IsSpecification, IsTold, StandsFor, asked, broken_in, table_answer}
 use Rattle.ioa_serving.specs.Serving.{run_failure}
 use Rattle.ioa_serving.proofs.SeedsTold.{status_same}
 

@@ -1,5 +1,5 @@
 -- What runs by many seeds are given, and why nothing is.
-use Rattle.std.proofs.Common.{◌≡◌, ◌∙◌, ◌⊎◌, [], ◌∷◌, ℕ, Bool, List, None, Option, Some, false, true, ap, arith, inl, inr, length, refl, subst, sym}
+use Rattle.std.proofs.Common.{◌≡◌, ◌⊎◌, [], ◌∷◌, ℕ, Bool, List, None, Option, Some, false, true, ap, arith, inl, inr, length, refl, sym}
 use Rattle.std.specs.Borrow.{Bor}
 use Rattle.std.specs.List.{AllZip}
 use Rattle.std.specs.Option.{option_copied}
@@ -8,11 +8,9 @@ use Rattle.std.proofs.lemmas.Bool.{eqb-true}
 use Rattle.ioa_value.specs.Actions.{Name}
 use Rattle.ioa_lex.specs.declared.refusal.Refusal.{Refusal}
 use Rattle.ioa_lex.specs.declared.refusal.Refusal.TheVariants as refusals
-use Rattle.ioa_tree.specs.Compositions.{picked}
-use Rattle.ioa_tree.specs.Hosts.{Hosted, IsHosted}
-use Rattle.ioa_tree.specs.Tree.{CompositionTree, SourceTree}
+use Rattle.ioa_tree.specs.Hosts.{Hosted}
+use Rattle.ioa_tree.specs.Tree.{SourceTree}
 use Rattle.ioa_tree.specs.WellFormed.{WellFormed}
-use Rattle.ioa_compose.specs.Refusals as composing
 use Rattle.ioa_compile.specs.Programs.{Prog}
 use Rattle.ioa_compile.specs.Subjects.{Subject, of_composition, of_hosts, of_table}
 use Rattle.ioa_coverage.specs.declared.origin.Origin.{Origin}

@@ -1,11 +1,10 @@
 -- The lines of tallies and of inputs, put one behind the other.
-use Rattle.std.proofs.Common.{◌≡◌, ◌≤◌, ◌<◌, ◌++◌, ◌∷◌, ◌-◌, ◌+◌, ◌∙◌, ℕ, Bool, true, false, List, [], Option, None, Some, append_assoc, ap, ap₂, arith, cond, drop, length, map, min, refl, slice_get, string_bytes, sym, take}
+use Rattle.std.proofs.Common.{◌≡◌, ◌≤◌, ◌<◌, ◌++◌, ◌∷◌, ◌-◌, ◌+◌, ◌∙◌, ℕ, Bool, true, false, List, [], None, Some, append_assoc, ap, ap₂, arith, cond, drop, length, map, min, refl, slice_get, string_bytes, sym, take}
 use Rattle.std.specs.List.{flat_map}
 use Rattle.std.specs.Prelude.{get_or}
 use Rattle.std.specs.Option.{option_map_or}
 use Rattle.std.proofs.lemmas.List.{drop-map, drop-take, drop_all, drop_min, drop_more, flat_map_more, length-take-le, map_more, take-map, take_rest}
 use Rattle.ioa_value.specs.Actions.{Act, Name}
-use Rattle.ioa_tree.specs.declared.tree.Kind.{Kind}
 use Rattle.ioa_tree.specs.Components.{is_local}
 use Rattle.ioa_compile.specs.declared.table.Entry.{Entry}
 use Rattle.ioa_compile.specs.declared.table.Member.{Member}

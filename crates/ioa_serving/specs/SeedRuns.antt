@@ -1,5 +1,5 @@
 -- Runs of a program by many seeds, and what programs answer to them, before they are told of what they run as.
-use Rattle.std.specs.Prelude.{◌≡◌, ◌≢◌, ◌≤◌, ◌^◌, ◌⊎◌, ◌∷◌, ℕ, suc, All, false, List, [], Bool, true, Err, Ok, None, Option, Some, length, map}
+use Rattle.std.specs.Prelude.{◌≡◌, ◌≢◌, ◌≤◌, ◌^◌, ◌⊎◌, ◌∷◌, ℕ, suc, false, List, [], Bool, true, Err, Ok, None, Option, Some, length, map}
 use Rattle.std.specs.Io.KnownBytes.{Appends, Keeps}
 use Rattle.std.specs.List.{AllZip}
 use Rattle.std.specs.Option.{option_copied, option_map}
@@ -19,7 +19,7 @@ use Rattle.ioa_coverage.specs.declared.origin.Origin.{Origin}
 use Rattle.ioa_coverage.specs.Effects.{CoversAll}
 use Rattle.ioa_system.specs.Logs.{Logged, actions_of, log_end, log_entry, logged}
 use Rattle.ioa_system.specs.Outcomes.{ending_of}
-use Rattle.ioa_monitor.specs.Monitoring.{IsSeen, hides, monitored}
+use Rattle.ioa_monitor.specs.Monitoring.{IsSeen, monitored}
 use Rattle.ioa_inspect.specs.Breaking.{broken_of}
 use Rattle.ioa_board.specs.declared.outcome.Outcome.{Outcome}
 use Rattle.ioa_board.specs.declared.run_err.RunErr.{RunErr}

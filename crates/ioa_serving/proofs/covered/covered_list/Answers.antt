@@ -1,4 +1,4 @@
-use Rattle.std.proofs.Common.{◌≡◌, ◌∙◌, ◌∷◌, [], ℕ, Err, List, ap, string_bytes, subst, sym, take}
+use Rattle.std.proofs.Common.{◌≡◌, ◌∙◌, ◌∷◌, [], ℕ, Err, List, ap, string_bytes, subst, take}
 use Rattle.std.proofs.lemmas.Result.{err_from_is_err_and}
 use Rattle.ioa_value.specs.Lists.{BadLine, ReadsList}
 use Rattle.ioa_value.specs.Table.{Table}
@@ -8,7 +8,7 @@ use Rattle.ioa_coverage.specs.Covered.{its_coverage}
 use Rattle.ioa_log.specs.Readings.{IsListReplayed}
 use Rattle.ioa_serving.specs.declared.at_hand.AtHand.{AtHand}
 use Rattle.ioa_serving.proofs.Covering.{covers_list, no_list, none_failed}
-use Rattle.ioa_serving.proofs.Refused.{err_as, err_so}
+use Rattle.ioa_serving.proofs.Refused.{err_so}
 use Rattle.ioa_serving.proofs.covered.covered_list.Goals as goal
 
 pub returns-in_err-replayed-clause-refused : goal.returns-in_err-replayed-clause-refused

@@ -1,12 +1,12 @@
-use Rattle.std.proofs.Common.{◌∙◌, ℕ, Err, List, ap, subst, sym}
+use Rattle.std.proofs.Common.{ℕ, List, ap, subst}
 use Rattle.std.proofs.lemmas.Result.{err_from_is_err_and}
 use Rattle.ioa_value.specs.Table.{Table}
 use Rattle.ioa_system.specs.Logs.{logged}
 use Rattle.ioa_log.specs.LogReplays.{IsNoLog, IsReplayedAs}
 use Rattle.ioa_log.specs.LogTexts.{ReadsLog}
 use Rattle.ioa_serving.specs.declared.at_hand.AtHand.{AtHand}
-use Rattle.ioa_serving.proofs.Covering.{covers_log, none_failed}
-use Rattle.ioa_serving.proofs.Refused.{err_as, err_so}
+use Rattle.ioa_serving.proofs.Covering.{covers_log}
+use Rattle.ioa_serving.proofs.Refused.{err_so}
 use Rattle.ioa_serving.proofs.covered.covered_log.Goals as goal
 
 pub returns-in_err-replayed-clause-refused : goal.returns-in_err-replayed-clause-refused

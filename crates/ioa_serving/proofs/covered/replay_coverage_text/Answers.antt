@@ -1,4 +1,4 @@
-use Rattle.std.proofs.Common.{◌⊎◌, ◌∙◌, ℕ, List, inl, inr, Err, ap, subst, sym, take}
+use Rattle.std.proofs.Common.{◌⊎◌, ◌∙◌, ℕ, List, inl, inr, Err, ap, subst, take}
 use Rattle.std.specs.Io.KnownBytes.{Appends}
 use Rattle.std.specs.Option.{option_copied}
 use Rattle.std.specs.String.{string_bytes}

@@ -1,4 +1,4 @@
-use Rattle.std.proofs.Common.{◌<◌, ◌≤◌, List, ap, length, map, option_map, rules, take, ◌∙◌}
+use Rattle.std.proofs.Common.{◌<◌, ◌≤◌, List, ap, length, map, option_map, rules, ◌∙◌}
 use Rattle.std.proofs.lemmas.List.{take_all}
 use Rattle.ioa_compile.specs.Programs.{Prog}
 use Rattle.ioa_system.specs.Logs.{logged}

@@ -1,5 +1,4 @@
-use Rattle.std.proofs.Common.{◌≡◌, ◌∙◌, ◌++◌, ap, length, map, string_bytes, sym}
-use Rattle.std.proofs.lemmas.Result.{on_ok_weaker}
+use Rattle.std.proofs.Common.{◌∙◌, ◌++◌, ap, length, map, string_bytes, sym}
 use Rattle.ioa_value.specs.Actions.{act_of}
 use Rattle.ioa_watch.specs.declared.watcher.Watcher.{Watcher}
 use Rattle.ioa_watch.specs.Names.{shown}

@@ -1,4 +1,4 @@
-use Rattle.std.proofs.Common.{◌≡◌, ◌∙◌, ◌-◌, ◌<◌, ◌^◌, List, Option, ap, arith, get_or, length, map, option_map, rules, sym}
+use Rattle.std.proofs.Common.{◌≡◌, ◌∙◌, ◌-◌, ◌<◌, ◌^◌, List, Option, ap, arith, get_or, length, map, option_map, sym}
 use Rattle.std.proofs.lemmas.Option.{slice_get-get_or}
 use Rattle.ioa_system.specs.declared.outcomes.End.{End}
 use Rattle.ioa_system.specs.Outcomes.{ending_of}

@@ -1,4 +1,4 @@
-use Rattle.std.proofs.Common.{◌≡◌, ◌∙◌, ◌≤◌, ◌<◌, List, Option, Some, ap, length, map, option_map, string_bytes, refl, rules, arith}
+use Rattle.std.proofs.Common.{◌∙◌, ◌≤◌, ◌<◌, List, Option, ap, length, map, option_map, string_bytes, refl, rules, arith}
 use Rattle.std.specs.Borrow.{Bor}
 use Rattle.std.specs.List.{zip}
 use Rattle.std.proofs.lemmas.Option.{slice_get-get_or, slice_get-map}

@@ -1,4 +1,4 @@
-use Rattle.std.proofs.Common.{◌∙◌, ℕ, List, ap, inl, inr, subst, sym, take}
+use Rattle.std.proofs.Common.{◌∙◌, ℕ, List, ap, inr, subst, sym, take}
 use Rattle.std.specs.Io.KnownBytes.{Appends}
 use Rattle.std.proofs.lemmas.Result.{err_from_is_err_and}
 use Rattle.ioa_serving.specs.declared.failure.Failure.{Failure}

@@ -1,12 +1,9 @@
-use Rattle.std.proofs.Common.{◌≡◌, ◌∙◌, ◌+◌, ◌++◌, ◌∷◌, ◌<◌, ◌≤◌, ◌^◌, ℕ, List, [], ap, arith, inl, inr, length, length-append, refl, subst, suc, sym}
-use Rattle.std.proofs.lemmas.List.{length-map}
+use Rattle.std.proofs.Common.{◌≡◌, ◌∙◌, ◌+◌, ◌++◌, ◌∷◌, ◌<◌, ◌≤◌, ◌^◌, ℕ, List, [], ap, arith, inr, length, length-append, refl, subst, suc, sym}
 use Rattle.std.proofs.lemmas.Result.{err_from_is_err_and}
-use Rattle.ioa_system.specs.Logs.{logged}
 use Rattle.ioa_device.specs.Failing.{HasFailed}
 use Rattle.ioa_serving.specs.declared.seed_tally.Tally.{Tally}
 use Rattle.ioa_serving.specs.Seeds.{Judged, monitors_of, seed_lines, seeds_count}
 use Rattle.ioa_serving.specs.SeedRuns.{IsCovered, IsTallyOf, IsTold, judged_of}
-use Rattle.ioa_serving.proofs.Kept.{keeps_same}
 use Rattle.ioa_serving.proofs.Refused.{err_so}
 use Rattle.ioa_serving.proofs.SeedCuts.{answers_count, cut_on, refused_next, runs_on, told_on}
 use Rattle.ioa_serving.proofs.SeedLines.{refusals_count}

@@ -1,4 +1,4 @@
-use Rattle.std.proofs.Common.{◌++◌, Result, Ok, Err, OnOk, append_assoc, ap, refl, string_bytes, ◌∙◌}
+use Rattle.std.proofs.Common.{◌++◌, Result, Ok, Err, OnOk, append_assoc, ap, string_bytes, ◌∙◌}
 use Rattle.ioa_account.specs.States.{state_lines}
 use Rattle.ioa_compile.proofs.Subjects.{all_held}
 use Rattle.ioa_enabled.specs.Told.{enabled_lines}

@@ -1,10 +1,9 @@
-use Rattle.std.proofs.Common.{◌≡◌, ◌∙◌, ◌+◌, ◌<◌, ◌≤◌, ◌-◌, ◌^◌, ◌++◌, ◌∷◌, [], ℕ, List, ap, arith, get_or, length, refl, rules, subst, sym, take}
+use Rattle.std.proofs.Common.{◌≡◌, ◌∙◌, ◌+◌, ◌<◌, ◌≤◌, ◌-◌, ◌^◌, ◌++◌, ◌∷◌, [], ℕ, List, ap, arith, get_or, length, rules, subst, sym, take}
 use Rattle.std.proofs.lemmas.List.{length-take-le, take_all, take_more}
 use Rattle.ioa_value.specs.Actions.{Act, act_of}
 use Rattle.ioa_compile.specs.Programs.{Prog}
 use Rattle.ioa_system.specs.declared.log.LogEntry.{LogEntry}
 use Rattle.ioa_system.specs.Logs.{logged}
-use Rattle.ioa_watch.specs.declared.watcher.Watcher.{Watcher}
 use Rattle.ioa_watch.specs.Watchers.{HasHeard}
 use Rattle.ioa_watch.proofs.Watchers.{heard_few, heard_next}
 use Rattle.ioa_serving.specs.Logs.{performed_in}

@@ -1,4 +1,4 @@
-use Rattle.std.proofs.Common.{◌∙◌, ◌++◌, ap, map, sym, rules, string_bytes, ◌≡◌, ◌≤◌, ◌+◌, drop, String, length, List}
+use Rattle.std.proofs.Common.{◌∙◌, ◌++◌, ap, map, sym, string_bytes, ◌≤◌, ◌+◌, drop, String, length, List}
 use Rattle.std.specs.Global.{Global}
 use Rattle.ioa_compile.specs.Shown.{member_code}
 use Rattle.ioa_system.specs.Logs.{log_entry}

@@ -1,4 +1,4 @@
-use Rattle.std.proofs.Common.{ap, ap₂, not, ◌==◌, ◌∙◌}
+use Rattle.std.proofs.Common.{ap₂, not, ◌==◌, ◌∙◌}
 use Rattle.ioa_serving.proofs.Strictly.{took}
 use Rattle.ioa_serving.proofs.verdict.took_some.Goals as goal
 

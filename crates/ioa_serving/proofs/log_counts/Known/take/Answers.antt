@@ -1,4 +1,4 @@
-use Rattle.std.proofs.Common.{◌≡◌, ◌==◌, ◌∙◌, ◌+◌, ◌++◌, ◌∷◌, [], List, Bool, true, false, not, ap, arith, length, subst, sym}
+use Rattle.std.proofs.Common.{◌≡◌, ◌==◌, ◌∙◌, ◌+◌, List, true, false, not, ap, arith, length, subst, sym}
 use Rattle.std.specs.List.{list_any}
 use Rattle.std.specs.Vec.{vec_len}
 use Rattle.ioa_value.specs.Actions.{Act, act_of}
@@ -9,7 +9,7 @@ use Rattle.ioa_compile.specs.Tables.{tabled}
 use Rattle.ioa_account.proofs.Counting.{is_known}
 use Rattle.ioa_watch.specs.Watchers.{HasHeard}
 use Rattle.ioa_watch.proofs.Watchers.{heard_next}
-use Rattle.ioa_serving.specs.LogCounts.{known_among, passed_among}
+use Rattle.ioa_serving.specs.LogCounts.{known_among}
 use Rattle.ioa_serving.proofs.HeardKnown.{heard_within, known_kept, known_more, passed_kept, passed_more, passed_within}
 use Rattle.ioa_serving.proofs.log_counts.Known.take.Goals as goal
 
