@@ -29,7 +29,6 @@ use ioa_value::{Action, Fault, OutOfMemory, Types, print_action};
 use std::alloc::Global;
 
 /// Why a run ends before all its actions are performed.
-#[derive(Drop)]
 pub struct Account {
     /// How the run ends.
     pub end: End,
@@ -45,6 +44,20 @@ pub struct Account {
     pub line: u32,
     /// The variables of that component, a line each, in the state before the action.
     pub states: String,
+}
+
+/// Written out, so that who drops one calls this, and does not take it apart itself.
+impl Drop for Account {
+    fn drop(self) {
+        let Account {
+            end: _,
+            index: _,
+            why: _,
+            component: _,
+            line: _,
+            states: _,
+        } = self;
+    }
 }
 
 /// Why the program's run over the actions ends before all are performed; none where it does not.

@@ -31,10 +31,19 @@ use std::marker::Model;
 
 /// A composition's invariants as they are asked of its components' states: of each component, for each invariant of its automaton, verified code,
 /// beside the composition's program, of which it is no part. A condition whose code or constants a part could not number has none.
-#[derive(Drop)]
 pub struct Asked<'a> {
     composition: &'a Composition,
     codes: Vec<Vec<Option<Verified>>>,
+}
+
+/// Written out, so that who drops one calls this, and does not take it apart itself.
+impl Drop for Asked<'_> {
+    fn drop(self) {
+        let Asked {
+            composition: _,
+            codes: _,
+        } = self;
+    }
 }
 
 impl<'a> Model for Asked<'a> {

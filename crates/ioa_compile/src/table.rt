@@ -6,7 +6,6 @@ use ioa_tree::Kind;
 use ioa_value::Position;
 
 /// An entry of a component's signature, with the code of its transition.
-#[derive(Drop)]
 pub struct Entry {
     pub kind: Kind,
     pub name: String,
@@ -19,10 +18,34 @@ pub struct Entry {
     pub effect: Verified,
 }
 
+/// Written out, so that who drops one calls this, and does not take it apart itself.
+impl Drop for Entry {
+    fn drop(self) {
+        let Entry {
+            kind: _,
+            name: _,
+            positions: _,
+            pre: _,
+            propose: _,
+            effect: _,
+        } = self;
+    }
+}
+
 /// A component: its name, its start state and its entries in order.
-#[derive(Drop)]
 pub struct Member {
     pub name: String,
     pub start: NodeState,
     pub entries: Vec<Entry>,
+}
+
+/// Written out, so that who drops one calls this, and does not take it apart itself.
+impl Drop for Member {
+    fn drop(self) {
+        let Member {
+            name: _,
+            start: _,
+            entries: _,
+        } = self;
+    }
 }

@@ -6,7 +6,6 @@ use ioa_value::{Position, Types, Value};
 /// A component of a composition: the composition's types, an automaton with the values of its formals, and the start values
 /// of its variables. The first `declared` of these are the source's own. A component that crashes and recovers has another one
 /// behind them, `#up`, and formals for the start values of those that a crash resets.
-#[derive(Drop)]
 pub struct Member {
     pub name: String,
     pub types: Types,
@@ -16,4 +15,19 @@ pub struct Member {
     pub arguments: Vec<Value>,
     pub starts: Vec<Value>,
     pub declared: usize,
+}
+
+/// Written out, so that who drops one calls this, and does not take it apart itself.
+impl Drop for Member {
+    fn drop(self) {
+        let Member {
+            name: _,
+            types: _,
+            automaton: _,
+            positions: _,
+            arguments: _,
+            starts: _,
+            declared: _,
+        } = self;
+    }
 }

@@ -17,12 +17,22 @@ use std::mem;
 /// A run of a program whose events come one by one: whoever's event comes next moves next. The workers are the components, numbered as
 /// such, and the environment, whose number is that of the components. A greater number is no worker's: its copies are answered
 /// `NotAnAction` or `NotYours`, and its commits `NoPlan`.
-#[derive(Drop)]
 pub struct Core<'p> {
     alloc: Global,
     board: Board<'p>,
     /// For each worker its plan or none.
     plans: Vec<Option<Plan<'p>>>,
+}
+
+/// Written out, so that who drops one calls this, and does not take it apart itself.
+impl Drop for Core<'_> {
+    fn drop(self) {
+        let Core {
+            alloc: _,
+            board: _,
+            plans: _,
+        } = self;
+    }
 }
 
 impl<'p> Model for Core<'p> {

@@ -30,13 +30,24 @@ pub struct Participant<'a> {
 
 /// Who takes part in an action of a program: the components that have it, and the one among them that owns it. The action is looked
 /// up once, where a participation is made; all that is told of it is told from there.
-#[derive(Drop)]
 pub struct Participation<'a, 'b> {
     program: &'a Program,
     action: &'b Action,
     participants: Vec<Participant<'a>>,
     /// Where the entry stands that has the action as output or internal.
     owner: Option<Site>,
+}
+
+/// Written out, so that who drops one calls this, and does not take it apart itself.
+impl Drop for Participation<'_, '_> {
+    fn drop(self) {
+        let Participation {
+            program: _,
+            action: _,
+            participants: _,
+            owner: _,
+        } = self;
+    }
 }
 
 impl<'a, 'b> Model for Participation<'a, 'b> {
@@ -87,7 +98,13 @@ impl<'a, 'b> Participation<'a, 'b> {
 
     /// The memory in which the participants stood.
     pub(crate) fn into_room(self) -> Vec<Participant<'a>> {
-        self.participants
+        let Participation {
+            program: _,
+            action: _,
+            participants,
+            owner: _,
+        } = self;
+        participants
     }
 
     /// The program.

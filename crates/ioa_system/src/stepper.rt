@@ -21,7 +21,6 @@ use std::mem;
 
 /// What takes steps on states that a caller holds, in memory that is used again from step to step. What it holds between two steps says
 /// nothing.
-#[derive(Drop)]
 pub struct Stepper<'a> {
     alloc: Global,
     /// Room for the participants of one action.
@@ -30,6 +29,18 @@ pub struct Stepper<'a> {
     workspace: Workspace,
     /// Room for the participants' new values.
     drafts: Vec<Draft>,
+}
+
+/// Written out, so that who drops one calls this, and does not take it apart itself.
+impl Drop for Stepper<'_> {
+    fn drop(self) {
+        let Stepper {
+            alloc: _,
+            room: _,
+            workspace: _,
+            drafts: _,
+        } = self;
+    }
 }
 
 impl<'a> Stepper<'a> {
