@@ -1,6 +1,6 @@
 //! What may stand behind some tokens, as the grammar tells of one token after the other.
 
-use ioa_grammar::goes_on;
+use ioa_declarations::goes_on;
 use ioa_lex::{Kind, Terminal, Token};
 use ioa_value::OutOfMemory;
 use std::alloc::Global;

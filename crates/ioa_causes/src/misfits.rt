@@ -10,7 +10,7 @@ ghost use Rattle.ioa_causes.specs.Words as spec;
 
 use crate::expected::Expected;
 use crate::nearest::nearest;
-use ioa_grammar::goes_on;
+use ioa_declarations::goes_on;
 use ioa_lex::{Kind, Terminal, Token};
 use ioa_syntax::{Stuck, stuck_in};
 use ioa_value::OutOfMemory;

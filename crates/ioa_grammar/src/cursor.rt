@@ -14,7 +14,7 @@ use std::marker::Model;
 
 /// What is left to read of some tokens.
 #[derive(Drop)]
-pub(crate) struct Cursor<'a> {
+pub struct Cursor<'a> {
     alloc: Global,
     left: &'a [Token],
 }
@@ -52,6 +52,7 @@ fn kind_of(terminal: Terminal) -> Option<ioa_tree::Kind>
 }
 
 impl<'a> Cursor<'a> {
+    /// All of the tokens are left.
     pub fn new(alloc: Global, tokens: &'a [Token]) -> Cursor<'a>
         ensures { result ≡ tokens.now }
     {
@@ -61,6 +62,7 @@ impl<'a> Cursor<'a> {
         }
     }
 
+    /// Where memory comes from.
     pub fn alloc(&self) -> Global {
         self.alloc
     }
@@ -109,7 +111,7 @@ impl<'a> Cursor<'a> {
 
     /// The word or sign that comes next.
     #[tactic(auto, unfolding(crate::specs::Reading::terminal_at))]
-    pub fn terminal(&self) -> Option<Terminal>
+    pub(crate) fn terminal(&self) -> Option<Terminal>
         ensures { result ≡ spec.terminal_at (tokens_shown self.now) }
     {
         match self.left {

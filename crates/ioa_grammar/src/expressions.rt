@@ -16,7 +16,7 @@ use ioa_tree::{Expression, Infix};
 use ioa_value::{LIMITS, Op};
 
 /// How deep expressions and statements may be.
-pub(crate) const MAX_DEPTH: u32 = LIMITS.depth as u32;
+pub const MAX_DEPTH: u32 = LIMITS.depth as u32;
 
 /// The operator before an expression that comes next.
 #[tactic(auto, unfolding(crate::specs::Reading::prefix_at))]
@@ -41,14 +41,14 @@ fn operator_at(cursor: &Cursor<'_>, least: u32, below: u32) -> Option<Infix>
 
 /// An expression with its depth, as deep as the limit allows.
 #[tactic(auto, unfolding(crate::specs::Reading::expression))]
-pub(crate) fn measured_expression(cursor: &mut Cursor<'_>) -> Result<Measured, ReadError>
+pub fn measured_expression(cursor: &mut Cursor<'_>) -> Result<Measured, ReadError>
     ensures { ReadsAs (λ m. expr_of m.expression) (spec.expression LIMITS.depth (tokens_shown cursor.old)) result (tokens_shown cursor.new) }
 {
     expression(cursor, MAX_DEPTH, 0)
 }
 
 /// An expression, as deep as the limit allows.
-pub(crate) fn whole_expression(cursor: &mut Cursor<'_>) -> Result<Expression, ReadError>
+pub fn whole_expression(cursor: &mut Cursor<'_>) -> Result<Expression, ReadError>
     ensures { ReadsAs expr_of (spec.expression LIMITS.depth (tokens_shown cursor.old)) result (tokens_shown cursor.new) }
 {
     let whole = measured_expression(cursor)?;

@@ -4,7 +4,7 @@ use std::alloc::{AllocError, AllocFailed};
 
 /// Why the tokens do not go on as the grammar wants.
 #[derive(Clone, Copy)]
-pub(crate) enum Fault {
+pub enum Fault {
     /// Nothing goes on with the token before whose end so many are left, itself among them.
     Syntax(usize),
     /// An expression is deeper than it may be.
@@ -13,8 +13,10 @@ pub(crate) enum Fault {
 
 /// Why nothing was read.
 #[derive(Clone, Copy)]
-pub(crate) enum ReadError {
+pub enum ReadError {
+    /// A growth of memory was refused.
     OutOfMemory,
+    /// The tokens do not go on so.
     Fault(Fault),
 }
 

@@ -1,6 +1,7 @@
-//! The grammar: tokens are read as declarations, and one table says how operators bind and are
-//! written, from which reading and printing take all else. What is read is what the tokens spell,
-//! at most 64 deep; or it is told on which line they spell nothing.
+//! The grammar: which tokens spell a source, and how they are read. One table says how operators
+//! bind and are written, from which reading and printing take all else. Here tokens are taken one
+//! by one, and expressions are read, at most 64 deep; or it is told how many tokens were left
+//! where nothing goes on.
 #![tactic(auto)]
 
 // Tokens that are still to be read, and why they are not.
@@ -13,20 +14,8 @@ mod expressions;
 mod measured;
 mod operators;
 
-// Automata.
-mod automata;
-mod signatures;
-mod statements;
-mod states;
-mod transitions;
-
-// The other declarations, and sources.
-mod compositions;
-mod dead_ends;
-mod invariants;
-mod sources;
-mod types;
-
-pub use dead_ends::{dead_end, goes_on};
+pub use cursor::Cursor;
+pub use expressions::{MAX_DEPTH, measured_expression, whole_expression};
+pub use fault::{Fault, ReadError};
+pub use measured::Measured;
 pub use operators::{stands_around, word_of};
-pub use sources::declarations;

@@ -11,7 +11,7 @@ use ioa_value::Op;
 use std::alloc::{AllocError, Global};
 
 /// An expression with its depth.
-pub(crate) struct Measured {
+pub struct Measured {
     pub expression: Expression,
     pub depth: u32,
     ghost exact: { depth ≡ depth_of (expr_of expression) },
@@ -39,7 +39,7 @@ impl Measured {
         expression
     }
 
-    pub fn number(n: u64, line: u32) -> Measured
+    pub(crate) fn number(n: u64, line: u32) -> Measured
         ensures { expr_of result.expression ≡ spec.number n }
     {
         Measured {
@@ -48,7 +48,7 @@ impl Measured {
         }
     }
 
-    pub fn truth(b: bool, line: u32) -> Measured
+    pub(crate) fn truth(b: bool, line: u32) -> Measured
         ensures { expr_of result.expression ≡ truth b }
     {
         Measured {
@@ -57,7 +57,7 @@ impl Measured {
         }
     }
 
-    pub fn name(name: Name) -> Measured
+    pub(crate) fn name(name: Name) -> Measured
         ensures { expr_of result.expression ≡ named (name_of name) }
     {
         Measured {
@@ -67,7 +67,7 @@ impl Measured {
     }
 
     /// The empty sequence of the type of this name, where the word `empty` stands on this line.
-    pub fn empty(name: Name, line: u32) -> Measured
+    pub(crate) fn empty(name: Name, line: u32) -> Measured
         ensures { expr_of result.expression ≡ empty (name_of name) }
     {
         Measured {
@@ -77,7 +77,7 @@ impl Measured {
     }
 
     /// The expression between parentheses, the first of which stands on this line.
-    pub fn parentheses(self, alloc: Global, line: u32) -> Result<Measured, AllocError>
+    pub(crate) fn parentheses(self, alloc: Global, line: u32) -> Result<Measured, AllocError>
         requires { self.depth < 1000 }
         ensures { IfOk result (λ m. expr_of m.expression ≡ parens (expr_of self.expression)) }
     {
@@ -89,7 +89,12 @@ impl Measured {
     }
 
     /// The operator on the expression; the word or sign of the operator stands on this line.
-    pub fn prefix(self, alloc: Global, operator: Op, line: u32) -> Result<Measured, AllocError>
+    pub(crate) fn prefix(
+        self,
+        alloc: Global,
+        operator: Op,
+        line: u32,
+    ) -> Result<Measured, AllocError>
         requires { self.depth < 1000 }
         ensures { IfOk result (λ m. expr_of m.expression ≡ prefix operator (expr_of self.expression)) }
     {
@@ -101,7 +106,7 @@ impl Measured {
     }
 
     /// The operator on both expressions; the first token of the whole stands on this line.
-    pub fn binary(
+    pub(crate) fn binary(
         self,
         alloc: Global,
         operator: Infix,
@@ -129,7 +134,7 @@ impl Measured {
     }
 
     /// A tuple of the type of this name, of these fields, the deepest of which has this depth.
-    pub fn make(name: Name, fields: Vec<Expression>, deepest: u32) -> Measured
+    pub(crate) fn make(name: Name, fields: Vec<Expression>, deepest: u32) -> Measured
         requires small { deepest < 1000 }
         requires exact { deepest ≡ exprs_depth (exprs_of fields.items) }
         ensures { expr_of result.expression ≡ make (name_of name) (exprs_of fields.items) }
@@ -141,7 +146,7 @@ impl Measured {
     }
 
     /// The field of this name of the expression.
-    pub fn select(self, alloc: Global, name: Name) -> Result<Measured, AllocError>
+    pub(crate) fn select(self, alloc: Global, name: Name) -> Result<Measured, AllocError>
         requires { self.depth < 1000 }
         ensures { IfOk result (λ m. expr_of m.expression ≡ select (expr_of self.expression) (name_of name)) }
     {

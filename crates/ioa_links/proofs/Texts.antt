@@ -14,7 +14,7 @@ use Rattle.ioa_grammar.specs.Reading.{same_terminal, terminal_at, sees, after, s
 use Rattle.ioa_lex.proofs.Covers.{same_tokens}
 use Rattle.ioa_tree.specs.Depth.{source_deep}
 use Rattle.ioa_tree.specs.Tree.{SourceTree}
-use Rattle.ioa_grammar.proofs.Whole.{source_found, one_source}
+use Rattle.ioa_declarations.proofs.Whole.{source_found, one_source}
 use Rattle.ioa_links.specs.Trees.{stenning_source}
 use Rattle.ioa_links.specs.declared.stenning.TheConstants.{BEFORE, AFTER}
 use Rattle.ioa_links.proofs.Words.{tokens_of, all_fine, spaced_text}

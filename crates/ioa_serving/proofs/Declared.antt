@@ -6,7 +6,7 @@ use Rattle.ioa_tree.specs.Hosts.{IsHosted}
 use Rattle.ioa_tree.specs.Tree.{SourceTree}
 use Rattle.ioa_tree.proofs.OneHosted.{hosted_once, some_same}
 use Rattle.ioa_grammar.specs.Grammar.{SpellsSource}
-use Rattle.ioa_grammar.proofs.Whole.{one_source}
+use Rattle.ioa_declarations.proofs.Whole.{one_source}
 use Rattle.ioa_syntax.specs.Source.{plain}
 use Rattle.ioa_serving.specs.Carried.{OneComposition}
 use Rattle.ioa_serving.specs.Headline.{Spells}

@@ -7,7 +7,7 @@ use Rattle.ioa_lex.specs.Tokens.{tokens_shown}
 use Rattle.ioa_tree.specs.Tree.{SourceTree}
 use Rattle.ioa_grammar.specs.Grammar.{SpellsSource}
 use Rattle.ioa_grammar.specs.Reading.{source}
-use Rattle.ioa_grammar.proofs.Whole.{source_found}
+use Rattle.ioa_declarations.proofs.Whole.{source_found}
 use Rattle.ioa_syntax.specs.Stuck.{IsNumbered}
 use Rattle.ioa_lex.proofs.Placed.{shown_of_placed}
 

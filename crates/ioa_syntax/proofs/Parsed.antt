@@ -19,8 +19,8 @@ use Rattle.ioa_grammar.specs.Grammar.{SpellsSource, IsDeadEnd}
 use Rattle.ioa_syntax.specs.Source.{AreTokens, IsSource, plain, line_of, BeginsTooDeep, IsRefused}
 use Rattle.ioa_grammar.specs.Reading as reading
 use Rattle.ioa_grammar.specs.Reading.{source, line_at, ReturnsSource, Refuses}
-use Rattle.ioa_grammar.proofs.Whole as whole
-use Rattle.ioa_grammar.proofs.Whole.{source_found, source_only, source_stuck, source_deeper, source_refuses}
+use Rattle.ioa_declarations.proofs.Whole as whole
+use Rattle.ioa_declarations.proofs.Whole.{source_found, source_only, source_stuck, source_deeper, source_refuses}
 
 -- ---- tokens with and without their lines
 

@@ -13,8 +13,8 @@ ghost use Rattle.ioa_grammar.specs.Reading.{ReturnsSource, line_at};
 ghost use Rattle.ioa_tree.specs.View.{tree_of};
 
 use crate::source::Source;
-use ioa_grammar::declarations;
 use ioa_lex::{Refusal, Token, lex};
+use ioa_sources::declarations;
 use std::alloc::Global;
 
 /// The source that a text is.

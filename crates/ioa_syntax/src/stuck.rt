@@ -8,7 +8,7 @@ ghost use Rattle.ioa_grammar.specs.DeadEnds.{IsDeadAt};
 ghost use Rattle.ioa_syntax.specs.Source.{plain};
 ghost use Rattle.ioa_syntax.specs.Stuck.{IsStuckIn};
 
-use ioa_grammar::dead_end;
+use ioa_declarations::dead_end;
 use ioa_lex::{Refusal, Token, lex};
 use ioa_value::OutOfMemory;
 use std::alloc::Global;

@@ -1,0 +1,12 @@
+use Rattle.std.proofs.Common.{sym, ◌∙◌}
+use Rattle.ioa_value.specs.declared.limits.TheConstants.{LIMITS}
+use Rattle.ioa_value.specs.declared.terminal.Terminal.TheVariants as terminals
+use Rattle.ioa_grammar.specs.Reading.{always, expression}
+use Rattle.ioa_tree.specs.View.{expr_of}
+use Rattle.ioa_grammar.proofs.Turns.{items_close}
+use Rattle.ioa_declarations.proofs.compositions.argument_list.Goals as goal
+
+pub returns-then-not-take : goal.returns-then-not-take
+returns-then-not-take c =
+    sym c.loop-turn.invariant
+    ∙ items_close expr_of always terminals.Comma (expression LIMITS.depth) _ _ _ _ _ _ _ _ c.loop-turn-test.true c.in_ok-whole_expression.ensures c.if-not-take.ensures.after (sym c.if-not-take.ensures.found) c.in_ok-push.ensures.items
