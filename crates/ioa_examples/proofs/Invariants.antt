@@ -15,7 +15,7 @@ use Rattle.ioa_examples.proofs.Shown.{shown}
 use Rattle.ioa_tree.specs.Tree.{Expr, number, truth, named, parens, binary, InvariantTree, automaton, composition, invariant, DeclarationTree, SourceTree}
 use Rattle.ioa_tree.specs.Depth.{deep}
 use Rattle.ioa_grammar.specs.Grammar.{SpellsInvariant}
-use Rattle.ioa_syntax.specs.Layout.{text_all, text_source}
+use Rattle.ioa_print.specs.Layout.{text_all, text_source}
 use Rattle.ioa_grammar.specs.Reading.{Outcome, declaration, about_machines, machine, composed, an_invariant, perhaps, sign, a_name, sees, after, same_terminal, expression, expr, first, operand, fields_from, after_name, primary, start_at, start_of, around_of, enclosed, closing, climb, operator_at, operator_of, prefix_at, prefix_of, terminal_at}
 use Rattle.ioa_tree.specs.Compositions.{Member, Composed, invariants}
 use Rattle.ioa_tree.specs.Invariants.{Broken, first_broken}

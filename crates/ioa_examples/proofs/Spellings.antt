@@ -14,7 +14,7 @@ use Rattle.ioa_examples.proofs.Shown.{shown}
 use Rattle.ioa_tree.specs.Tree.{Expr, number, truth, named, parens, prefix, binary, empty, make, select, no_expr, also, positive, negative, truth_literal, reference, PositionTree, typed, only, EntryTree, VariableTree, CrashTree, InstanceTree, CompositionTree, FormTree, enumeration, tuple, sequence, TypeTree, declared_type, composition}
 use Rattle.ioa_tree.specs.Depth.{depth_of}
 use Rattle.ioa_grammar.specs.Grammar.{SpellsExpr, SpellsPosition, SpellsVariable, SpellsHidden, SpellsInstance}
-use Rattle.ioa_syntax.specs.Layout.{space, line, text_number, text_expr, text_position, text_entry, text_variable, text_instance, text_all, text_type, text_source}
+use Rattle.ioa_print.specs.Layout.{space, line, text_number, text_expr, text_position, text_entry, text_variable, text_instance, text_all, text_type, text_source}
 use Rattle.ioa_grammar.specs.Reading.{Outcome, expression, expr, first, operand, fields_from, after_name, primary, start_at, start_of, around_of, around, around_one, around_two, an_empty, enclosed, closing, climb, operator_at, operator_of, prefix_at, prefix_of, terminal_at, same_terminal, sign, a_name, a_number, sees, after, items_from, separated, braced, field, an_enumeration, a_tuple, a_sequence, sequence_form, compound_form, type_form, a_type, literal, literal_at, literal_of, a_constant, position, positions, optional_list, kind_of, kind_at, a_kind, entry, perhaps, terminated, optional, flag, variable, variables, sees_variable, sees_name, arguments, a_crash, instance, instances, hidden_names, a_composition}
 
 abbrev word : Terminal → Tok

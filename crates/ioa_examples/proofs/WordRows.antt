@@ -9,7 +9,8 @@ use Rattle.ioa_value.specs.declared.value.Ty.{Ty}
 use Rattle.ioa_value.specs.Plain.{Val, num, truth, name, tuple, items, vals}
 use Rattle.ioa_value.specs.Table.{Table, names, fields, sequence, basic}
 use Rattle.ioa_value.specs.Widths.{widths}
-use Rattle.ioa_words.specs.Layout.{first_word_of, zeros, flat, flat_all, value_of, values_of}
+use Rattle.ioa_sequences.specs.Sequences.{zeros}
+use Rattle.ioa_words.specs.Layout.{first_word_of, flat, flat_all, value_of, values_of}
 use Rattle.ioa_words.specs.WordOperators.{made_of}
 use Rattle.ioa_words.specs.Decoding.{decoded}
 use Rattle.ioa_words.specs.declared.word_op.WordOp.TheVariants as words

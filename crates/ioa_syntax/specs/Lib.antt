@@ -1,5 +1,4 @@
 pub use Rattle.ioa_lex.specs.Tokens
 pub use Rattle.ioa_value.specs.Actions
 pub mod Source
-pub mod Layout
 pub mod Stuck

@@ -1,4 +1,4 @@
-//! Sources: texts are read as trees, and trees are printed. A `Source` keeps that some tokens spell
+//! Sources: texts are read as trees. A `Source` keeps that some tokens spell
 //! it, that its names are legal, and that nothing in it is deeper than 64. The trees are handed on
 //! from here.
 #![tactic(auto)]
@@ -6,7 +6,6 @@
 mod laws;
 mod numbered;
 mod parsing;
-mod printing;
 mod source;
 mod stuck;
 
@@ -20,6 +19,5 @@ pub use ioa_tree::{
 pub use laws::one_tree;
 pub use numbered::{Numbered, parse_numbered};
 pub use parsing::parse;
-pub use printing::print;
 pub use source::Source;
 pub use stuck::{Stuck, stuck_in};

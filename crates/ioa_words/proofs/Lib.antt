@@ -1,7 +1,7 @@
 pub mod LayoutLemmas
 pub mod WordLemmas
 pub mod ReadLemmas
-pub mod SequenceWords
+pub mod LeftWords
 pub mod ItemLemmas
 pub mod PlaceLemmas
 pub mod RowOperators

@@ -12,7 +12,6 @@ mod writing;
 
 // Operators on words.
 mod decoding;
-mod sequences;
 mod word_op;
 mod working;
 

@@ -11,8 +11,8 @@ use crate::tests::code::number_of;
 use crate::tests::made::{EMPTY, Got, action, basic, expect_so, parsed, program, set_up};
 use ioa_compile::Program;
 use ioa_node::NodeState;
+use ioa_print::print;
 use ioa_rows::{COUNTER, column, columns, is_row};
-use ioa_syntax::print;
 use ioa_system::{Moved, Step, System, participants, run_list, step_from};
 use ioa_value::{
     Action, OutOfMemory, Ty, Types, Value, first, has_type, print_action, read_action, same,

@@ -122,7 +122,7 @@ fn runs_are_accepted(rt: HostRuntime) {
         expect_accepted_both_ways(&rt, rt.alloc(), text, composition, specification);
     }
     let protocol = ioa_links::stenning_tree(rt.alloc(), 1_000).expect(&rt, "memory");
-    let text = ioa_syntax::print(rt.alloc(), &protocol).expect(&rt, "memory");
+    let text = ioa_print::print(rt.alloc(), &protocol).expect(&rt, "memory");
     expect_accepted_both_ways(&rt, rt.alloc(), text.as_slice(), "Stenning", "ReliableFifo");
 }
 

@@ -1,0 +1,9 @@
+use Rattle.std.proofs.Common.{◌≡◌, ◌++◌, map, take}
+use Rattle.std.specs.String.{string_bytes}
+use Rattle.ioa_value.specs.declared.terminal.Terminal.TheVariants as terminals
+use Rattle.ioa_print.specs.Layout.{text_instance, text_more}
+use Rattle.ioa_tree.specs.View.{instance_of}
+use Rattle.ioa_print.proofs.compositions.more_instances.Given as goal
+
+abbrev pub invariant-loop-each : goal.invariant-loop-each
+invariant-loop-each l = string_bytes l.text ≡ string_bytes l.initial.text ++ text_more terminals.Semicolon text_instance (map instance_of (take l.each-index l.instances))

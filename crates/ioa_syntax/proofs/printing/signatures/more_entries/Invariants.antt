@@ -1,9 +1,0 @@
-use Rattle.std.proofs.Common.{◌≡◌, ◌++◌, map, take}
-use Rattle.std.specs.String.{string_bytes}
-use Rattle.ioa_value.specs.declared.terminal.Terminal.TheVariants as terminals
-use Rattle.ioa_syntax.specs.Layout.{text_entry, text_more}
-use Rattle.ioa_tree.specs.View.{entry_of}
-use Rattle.ioa_syntax.proofs.printing.signatures.more_entries.Given as goal
-
-abbrev pub invariant-loop-each : goal.invariant-loop-each
-invariant-loop-each l = string_bytes l.text ≡ string_bytes l.initial.text ++ text_more terminals.Semicolon text_entry (map entry_of (take l.each-index l.entries))
