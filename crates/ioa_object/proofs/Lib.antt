@@ -20,5 +20,4 @@ pub mod Tables
 pub mod ObjectLaws
 pub mod Refused
 pub mod Computed
-pub mod Exits
 pub mod Written

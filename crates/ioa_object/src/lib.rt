@@ -1,5 +1,5 @@
-//! Object files: programs as bytes, and bytes as programs. Bytes are tested item by item and their
-//! code is verified, so what is read keeps all that a `Program` keeps, whoever wrote the bytes.
+//! The format of object files: programs as bytes, and the tables that bytes tell. Bytes are tested
+//! item by item and their code is verified, so tables that are read are right, whoever wrote the bytes.
 #![tactic(auto)]
 
 // How objects begin.
@@ -13,7 +13,7 @@ mod parts;
 mod types;
 
 // Whole programs.
-mod reading;
+mod programs;
 mod writing;
 
 // Laws.
@@ -21,5 +21,7 @@ mod laws;
 
 pub use ioa_bytes::ObjErr;
 pub use laws::objects_are_their_programs;
-pub use reading::read_object;
+pub use mark::{MARK, is_marked};
+pub use programs::read_tables;
+pub use versions::{is_needless, version_of};
 pub use writing::write_object;

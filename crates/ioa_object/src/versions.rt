@@ -18,7 +18,7 @@ pub(crate) fn version_byte(loops: bool) -> u8
 }
 
 /// Whether loops may stand under the version of this byte, if it is a version's.
-pub(crate) fn version_of(byte: u8) -> Option<bool>
+pub fn version_of(byte: u8) -> Option<bool>
     ensures { result ≡ spec.version_of byte }
 {
     match byte {
@@ -41,7 +41,7 @@ pub(crate) fn have_loops(members: &[Member]) -> bool
 }
 
 /// Whether loops may stand, and the components' code has none.
-pub(crate) fn is_needless(loops: bool, members: &[Member]) -> bool
+pub fn is_needless(loops: bool, members: &[Member]) -> bool
     ensures { result ≡ spec.is_needless loops (list_any spec.member_loops (map member_code members.now)) }
 {
     loops && !have_loops(members)

@@ -14,7 +14,7 @@ use crate::failure::Failure;
 use ioa_check::{Checked, check};
 use ioa_compose::compose;
 use ioa_device::{OutputDevice, send_all};
-use ioa_object::read_object;
+use ioa_loader::read_object;
 use ioa_syntax::{Refusal, parse};
 use ioa_tree::Declaration;
 use std::alloc::Global;

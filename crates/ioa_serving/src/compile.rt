@@ -15,7 +15,8 @@ use crate::failure::Failure;
 use ioa_check::check;
 use ioa_compile::{Program, compile};
 use ioa_compose::{Composition, compose};
-use ioa_object::{read_object, write_object};
+use ioa_loader::read_object;
+use ioa_object::write_object;
 use ioa_syntax::{Refusal, parse};
 use std::alloc::Global;
 

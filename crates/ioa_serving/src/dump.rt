@@ -8,7 +8,7 @@ ghost use Rattle.ioa_serving.specs.Dumps as spec;
 use crate::failure::Failure;
 use ioa_device::{OutputDevice, send_all};
 use ioa_dump::dump_text;
-use ioa_object::read_object;
+use ioa_loader::read_object;
 use std::alloc::Global;
 
 /// Reads an object, and writes the tables and the code of its program, an item a line.

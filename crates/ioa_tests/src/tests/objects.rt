@@ -3,8 +3,9 @@
 use crate::tests::made::{self, Got, expect_so};
 use ioa_compile::Program;
 use ioa_device::Counted;
+use ioa_loader::read_object;
 use ioa_log::replay_list;
-use ioa_object::{ObjErr, read_object, write_object};
+use ioa_object::{ObjErr, write_object};
 use ioa_rows::COUNTER;
 use std::alloc::Global;
 use std::process::Abort;

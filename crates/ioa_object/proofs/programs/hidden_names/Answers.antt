@@ -4,7 +4,7 @@ use Rattle.ioa_compile.specs.Shown.{member_code}
 use Rattle.ioa_value.specs.declared.limits.TheConstants.{LIMITS as most}
 use Rattle.ioa_object.specs.Reading.{hidden_at}
 use Rattle.ioa_bytes.proofs.Readers.{seen_more, amid_fails, amid_more, amid_done, list_begun, list_fails}
-use Rattle.ioa_object.proofs.reading.hidden_names.Goals as goal
+use Rattle.ioa_object.proofs.programs.hidden_names.Goals as goal
 
 pub returns-in_err-count : goal.returns-in_err-count
 returns-in_err-count c =

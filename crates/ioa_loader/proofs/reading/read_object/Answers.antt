@@ -14,9 +14,9 @@ use Rattle.ioa_object.specs.Spelling.{mark}
 use Rattle.ioa_object.specs.Versions.{member_loops, is_needless, version_byte, version_of}
 use Rattle.ioa_bytes.specs.declared.failure.ObjErr.TheVariants as errors
 use Rattle.ioa_object.proofs.Refused.{no_mark, was_read}
-use Rattle.ioa_object.proofs.Exits.{Answers, marked_spot, are_bytes, passed_on, no_version, wrong_version, behind_version, version_there, answers_error, answers_failed, answers_memory, answers_ok, answers_needless, answers_trailing, answers_clash}
-use Rattle.ioa_object.proofs.reading.read_object.Goals.{In-Some, In_ok-tables}
-use Rattle.ioa_object.proofs.reading.read_object.Goals as goal
+use Rattle.ioa_loader.proofs.Exits.{Answers, marked_spot, are_bytes, passed_on, no_version, wrong_version, behind_version, version_there, answers_error, answers_failed, answers_memory, answers_ok, answers_needless, answers_trailing, answers_clash}
+use Rattle.ioa_loader.proofs.reading.read_object.Goals.{In-Some, In_ok-tables}
+use Rattle.ioa_loader.proofs.reading.read_object.Goals as goal
 
 pub returns-then-not-is_marked : goal.returns-then-not-is_marked
 returns-then-not-is_marked c =
@@ -64,18 +64,18 @@ returns-in_err-tables c =
     (answers_failed bytes c.in-Some.loops c.byte.new.self c.in_err-tables.field-0.0 (read_there (goal.at.returns-in_err-tables c).In-Some) c.in_err-tables.ensures)
 
 -- what was read, and where it ended
-read_all : (c : In_ok-tables) → read c.args.bytes.now ≡ Ok (prog_of c.in_ok-tables.tables, c.tables.new.cursor)
+read_all : (c : In_ok-tables) → read c.args.bytes.now ≡ Ok (prog_of c.in_ok-tables.tables, c.read_tables.new.cursor)
 read_all c = read_there (goal.at.In_ok-tables c).In-Some ∙ c.in_ok-tables.ensures
 
 pub from_right-requires : goal.from_right-requires
 from_right-requires c =
-    (was_read c.args.bytes.now (prog_of c.in_ok-tables.tables) c.tables.new.cursor (are_bytes c.args.bytes.now c.type_inv.bytes) (read_all (goal.at.from_right-requires c).In_ok-tables)).under_it.right
+    (was_read c.args.bytes.now (prog_of c.in_ok-tables.tables) c.read_tables.new.cursor (are_bytes c.args.bytes.now c.type_inv.bytes) (read_all (goal.at.from_right-requires c).In_ok-tables)).under_it.right
 
 pub returns-in-Err-Clash : goal.returns-in-Err-Clash
 returns-in-Err-Clash c =
     let p = prog_of c.in_ok-tables.tables in
     let no : IsNoProgram p (Clash c.in-Err-Clash.field-0-0 c.in-Err-Clash.field-0-1) = subst (IsNoProgram p) c.in-Err-Clash.field-0-is c.in-Err-Clash.ensures.clash in
-    answers_clash c.args.bytes.now p c.tables.new.cursor (are_bytes c.args.bytes.now c.type_inv.bytes) (read_all (goal.at.returns-in-Err-Clash c).In_ok-tables)
+    answers_clash c.args.bytes.now p c.read_tables.new.cursor (are_bytes c.args.bytes.now c.type_inv.bytes) (read_all (goal.at.returns-in-Err-Clash c).In_ok-tables)
     (first-incompatible (tabled p) c.in-Err-Clash.field-0-0 c.in-Err-Clash.field-0-1 no.1.0 no.1.1)
 
 pub returns-in-Err-OutOfMemory : goal.returns-in-Err-OutOfMemory
@@ -86,12 +86,12 @@ pub unreachable-requires : goal.unreachable-requires
 unreachable-requires c =
     let p = prog_of c.in_ok-tables.tables in
     let wrong : IsNoProgram p Table = subst (IsNoProgram p) c.in-Err-Table.field-0-is c.in-Err-Table.ensures.clash in
-    wrong (was_read c.args.bytes.now p c.tables.new.cursor (are_bytes c.args.bytes.now c.type_inv.bytes) (read_all (goal.at.unreachable-requires c).In_ok-tables)).under_it.right
+    wrong (was_read c.args.bytes.now p c.read_tables.new.cursor (are_bytes c.args.bytes.now c.type_inv.bytes) (read_all (goal.at.unreachable-requires c).In_ok-tables)).under_it.right
 
 pub returns-then-left-gt0 : goal.returns-then-left-gt0
 returns-then-left-gt0 c =
     let p = prog_of c.in_ok-tables.tables in
-    let d = c.tables.new.cursor in
+    let d = c.read_tables.new.cursor in
     let some : d.rest ≢ [] = λ e. absurd (omega (arith, c.left.ensures, ap length e, c.if-left-gt0.true)) in
     answers_trailing c.args.bytes.now p d (are_bytes c.args.bytes.now c.type_inv.bytes) (read_all (goal.at.returns-then-left-gt0 c).In_ok-tables) some
     (subst (λ x. Compatible (tabled x)) c.in-Ok.ensures.program c.members-members.ensures.sound.compatible)
@@ -100,7 +100,7 @@ pub returns-then-is_needless : goal.returns-then-is_needless
 returns-then-is_needless c =
     let p = prog_of c.in_ok-tables.tables in
     let bytes = c.args.bytes.now in
-    let d = c.tables.new.cursor in
+    let d = c.read_tables.new.cursor in
     let none : d.rest ≡ [] = nil_from_length d.rest (omega (arith, c.left.ensures, c.if-left-gt0.false)) in
     let (more, is) = version_is (goal.at.returns-then-is_needless c).In-Some in
     let same : map member_code c.members-members.result.now ≡ p.members = c.members-members.ensures.value ∙ ap (λ q. q.members) c.in-Ok.ensures.program in
@@ -112,7 +112,7 @@ pub returns : goal.returns
 returns c =
     let p = prog_of c.in_ok-tables.tables in
     let bytes = c.args.bytes.now in
-    let d = c.tables.new.cursor in
+    let d = c.read_tables.new.cursor in
     let none : d.rest ≡ [] = nil_from_length d.rest (omega (arith, c.left.ensures, c.if-left-gt0.false)) in
     let (more, is) = version_is (goal.at.returns c).In-Some in
     let same : map member_code c.members-members.result.now ≡ p.members = c.members-members.ensures.value ∙ ap (λ q. q.members) c.in-Ok.ensures.program in

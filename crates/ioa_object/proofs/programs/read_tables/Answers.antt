@@ -9,7 +9,7 @@ use Rattle.ioa_bytes.specs.Items.{Outcome, ◌>>=◌, Fails, name_at, list_at}
 use Rattle.ioa_object.specs.Reading.{types_at, component_at, hidden_at, program_of, tables_at}
 use Rattle.ioa_bytes.specs.Spots.{Spot}
 use Rattle.ioa_bytes.proofs.Readers.{reads_err, then_err, then_ok}
-use Rattle.ioa_object.proofs.reading.tables.Goals as goal
+use Rattle.ioa_object.proofs.programs.read_tables.Goals as goal
 
 -- ---- what is read behind the types, behind the name, and behind the components
 
