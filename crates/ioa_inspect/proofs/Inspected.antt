@@ -9,7 +9,7 @@ use Rattle.ioa_compile.specs.Subjects.{Subject}
 use Rattle.ioa_system.specs.Logs.{Logged, actions_of}
 use Rattle.ioa_system.proofs.Subjects.{run_of}
 use Rattle.ioa_log.proofs.Judged.{IsReplay}
-use Rattle.ioa_log.proofs.LogReplays.{judged_as}
+use Rattle.ioa_log.proofs.AgreeingLogs.{judged_as}
 use Rattle.ioa_inspect.specs.declared.broken_invariants.Inspection.{Inspection}
 use Rattle.ioa_inspect.specs.Breaking.{IsInspectionOf, SimulatesAs, broken_of}
 use Rattle.ioa_inspect.proofs.Breaking.{broken_as, runs_through}

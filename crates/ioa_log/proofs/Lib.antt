@@ -21,6 +21,6 @@ pub mod Histories
 pub mod FirstDifference
 pub mod LineJudging
 pub mod LogReadings
-pub mod LogReplays
+pub mod AgreeingLogs
 pub mod Instances
 pub mod Begun

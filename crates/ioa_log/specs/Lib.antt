@@ -13,7 +13,7 @@ pub mod LineParsing
 pub mod Readings
 pub mod LineJudging
 pub mod LogReadings
-pub mod LogReplays
+pub mod AgreeingLogs
 pub mod Begun
 pub mod BegunLines
 pub mod RunLogs

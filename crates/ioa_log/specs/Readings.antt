@@ -3,17 +3,15 @@ use Rattle.std.specs.Prelude.{◌≡◌, ℕ, List, [], ◌∷◌, ◌++◌}
 use Rattle.std.specs.String.{string_bytes}
 use Rattle.ioa_value.specs.Actions.{Act}
 use Rattle.ioa_value.specs.Lists.{ReadsLines, ReadsList}
-use Rattle.ioa_tree.specs.Likes.{AllRelated}
 use Rattle.ioa_tree.specs.Runs.{run}
 use Rattle.ioa_compile.specs.Programs.{Prog}
-use Rattle.ioa_compile.specs.Subjects.{InSlots, Subject, its_components, its_starts, its_types}
 use Rattle.ioa_compile.specs.Tables.{start_states, tabled}
 use Rattle.ioa_system.specs.Outcomes.{ending_of}
 use Rattle.ioa_system.specs.Progress.{Progress, IsRunOver}
 use Rattle.ioa_system.specs.Systems.{slot_types, types_of, values_of}
 use Rattle.ioa_log.specs.declared.reading.Reading.{Reading}
 use Rattle.ioa_log.specs.declared.reading.Replayed.{Replayed}
-use Rattle.ioa_log.specs.Replays.{its_text, lines_of, run_text}
+use Rattle.ioa_log.specs.Replays.{lines_of, run_text}
 
 -- these actions are performed, and this is their trace's text
 pub record HasPerformed (p : Prog) (acts : List Act) (r : Progress) (text : List ℕ) : Type 0 where
@@ -39,13 +37,4 @@ pub record IsReplayed (p : Prog) (seen : List ℕ) (r : Replayed) : Type 0 where
   pub ending : ending_of r.end ≡ (run (tabled p) acts (start_states p)).ending
   pub text : string_bytes r.text ≡ run_text p.types p.hidden (tabled p) (start_states p) acts
   pub states : values_of r.states.items ≡ (run (tabled p) acts (start_states p)).states
-  pub types : types_of r.states.items ≡ slot_types p.members
-
--- the same of whatever the program runs as: the end and the text of the subject's run over the list, and slots that hold the states that it reaches
-pub record IsListReplayed (p : Prog) (s : Subject) (seen : List ℕ) (r : Replayed) : Type 0 where
-  pub acts : List Act
-  pub reads : ReadsList (its_types s) seen acts
-  pub ending : ending_of r.end ≡ (run (its_components s) acts (its_starts s)).ending
-  pub text : string_bytes r.text ≡ its_text s acts
-  pub states : AllRelated (InSlots p s) 0 (run (its_components s) acts (its_starts s)).states (values_of r.states.items)
   pub types : types_of r.states.items ≡ slot_types p.members

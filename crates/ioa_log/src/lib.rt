@@ -1,9 +1,8 @@
-//! Replays of lists of actions, texts of logs, and whether the run that a log tells is the program's.
+//! Texts of logs, lists and logs that are performed and judged line by line, and whether the run that a log tells is the program's.
 #![tactic(auto)]
 
 // Runs of lists.
 mod reading;
-mod replays;
 mod run_logs;
 mod trace;
 
@@ -19,13 +18,12 @@ mod spelled;
 mod judge;
 mod line_judge;
 mod log_reading;
-mod log_replays;
 
 // Laws.
 mod laws;
 
 pub use begun_logs::begun_log;
-pub use judge::{Judge, TracedJudge, replay};
+pub use judge::Judge;
 pub use laws::{
     accepted_logs_agree, judged_entry_by_entry, judged_is_the_run, logs_have_one_answer,
     logs_tell_histories, no_refusal, one_log, refused_logs_have_reasons, run_log_is_read,
@@ -34,10 +32,8 @@ pub use laws::{
 pub use line_judge::{LineJudge, Taken};
 pub use line_parser::{LineParser, Parsed};
 pub use log_reading::LogReading;
-pub use log_replays::{perform_log, replay_log};
-pub use logs::{read_log, write_log};
-pub use reading::Replayed;
-pub use replays::{perform_list, replay_list};
+pub use logs::{read_text, write_log};
+pub use reading::{Reading, Replayed};
 pub use run_logs::log_list;
 pub use trace::Trace;
 // What logs are is defined beside the runs that they tell.

@@ -16,7 +16,7 @@ use Rattle.ioa_monitor.proofs.Subjects.{monitored_as, open_as}
 use Rattle.ioa_log.specs.LogTexts.{ReadsLog, log_text}
 use Rattle.ioa_log.specs.RunLogs.{WritesRunLog}
 use Rattle.ioa_log.proofs.LoggedLists.{log_text_as}
-use Rattle.ioa_log.proofs.LogReplays.{log_as, text_as}
+use Rattle.ioa_log.proofs.AgreeingLogs.{log_as, text_as}
 use Rattle.ioa_picture.specs.Graphs.{graph}
 use Rattle.ioa_serving.specs.Carried.{ChartsAsSource, GraphsAsSource, LogsListsAsSource, LogsLogsAsSource, MonitorsAsSource, ReplaysAsSource, ReplaysLogsAsSource}
 use Rattle.ioa_serving.specs.Compiling.{IsCompiled}

@@ -16,7 +16,7 @@ use Rattle.ioa_system.specs.Logs.{Logged, actions_of}
 use Rattle.ioa_log.specs.Judging.{judged}
 use Rattle.ioa_log.specs.LogTexts.{log_text}
 use Rattle.ioa_log.proofs.Histories.{agrees_to_history}
-use Rattle.ioa_log.proofs.LogReplays.{judged_as, text_as}
+use Rattle.ioa_log.proofs.AgreeingLogs.{judged_as, text_as}
 use Rattle.ioa_board.specs.declared.report.Report.{Report}
 use Rattle.ioa_board.specs.Boards.{Standing}
 use Rattle.ioa_board.specs.Histories.{since}

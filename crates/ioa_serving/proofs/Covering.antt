@@ -29,9 +29,9 @@ use Rattle.ioa_system.specs.Outcomes.{ending_of, performed_by}
 use Rattle.ioa_device.specs.declared.failure.LogErr.{LogErr}
 use Rattle.ioa_device.specs.Failing.{FailedOnceAtMost, HasFailed, IsListErr}
 use Rattle.ioa_log.specs.declared.reading.Replayed.{Replayed}
-use Rattle.ioa_log.specs.LogReplays.{IsReplayedAs}
+use Rattle.ioa_replay.specs.LogReplays.{IsReplayedAs}
 use Rattle.ioa_log.specs.LogTexts.{ReadsLog}
-use Rattle.ioa_log.specs.Readings.{IsListReplayed}
+use Rattle.ioa_replay.specs.ListReplays.{IsListReplayed}
 use Rattle.ioa_log.proofs.OneLog.{one_log}
 use Rattle.ioa_serving.specs.AtHand.{failures_of}
 use Rattle.ioa_serving.specs.Coverage.{BeginsCoverageOf, CoversRun, CoversList, CoversLog, IsCoverageFailure, IsNoListOf, IsUncovered, behind, performed_of, told_coverage}

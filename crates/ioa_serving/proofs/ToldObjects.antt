@@ -5,8 +5,8 @@ use Rattle.ioa_value.proofs.ListLemmas.{cut_lines}
 use Rattle.ioa_compile.specs.Programs.{Prog}
 use Rattle.ioa_compile.specs.Subjects.{Subject}
 use Rattle.ioa_system.specs.Outcomes.{ending_of}
-use Rattle.ioa_log.specs.LogReplays.{IsReplayedAs}
-use Rattle.ioa_log.specs.Readings.{IsListReplayed}
+use Rattle.ioa_replay.specs.LogReplays.{IsReplayedAs}
+use Rattle.ioa_replay.specs.ListReplays.{IsListReplayed}
 use Rattle.ioa_log.specs.declared.reading.Replayed.{Replayed}
 use Rattle.ioa_serving.specs.declared.replay_objects.Told.{Told}
 use Rattle.ioa_serving.specs.Objects.{IsListTold, IsLogTold, act_objects, object_before, objects_of, rendered}

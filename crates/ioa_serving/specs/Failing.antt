@@ -22,7 +22,7 @@ use Rattle.ioa_monitor.specs.Monitoring.{IsClosed, IsOpen}
 use Rattle.ioa_log.specs.Judging.{judged}
 use Rattle.ioa_log.specs.LogTexts.{NotJsonAt, NoEntryAt, GoesOnAt, HasNoEnd}
 use Rattle.ioa_log.specs.Reasons.{TellsWhy}
-use Rattle.ioa_log.specs.Replays.{BeginsReplay}
+use Rattle.ioa_replay.specs.ListReplays.{BeginsReplay}
 use Rattle.ioa_serving.specs.declared.failure.Failure.{Failure}
 use Rattle.ioa_serving.specs.Headline.{Spells, IsFileOf, begins_object}
 use Rattle.ioa_serving.specs.Logs.{BeginsLog, BeginsFound, BeginsMonitor}

@@ -14,7 +14,7 @@ use Rattle.ioa_tree.specs.Runs.{Ending}
 use Rattle.ioa_compile.specs.Programs.{Prog}
 use Rattle.ioa_compile.specs.Subjects.{Subject, of_composition, of_hosts, of_table}
 use Rattle.ioa_object.specs.Objects.{IsObject}
-use Rattle.ioa_log.specs.Replays.{Replays}
+use Rattle.ioa_replay.specs.ListReplays.{Replays}
 use Rattle.ioa_request.specs.declared.shown.Shown.{Shown}
 use Rattle.ioa_serving.specs.Logs.{ReplaysLog, FindsInLog, Found, Monitors}
 use Rattle.ioa_serving.specs.States.{ReplaysLogStates, ReplaysStates}

@@ -11,7 +11,7 @@ ghost use Rattle.ioa_serving.specs.Headline.{IsReplay};
 use crate::compile::program_of;
 use crate::failure::Failure;
 use ioa_device::{InputDevice, OutputDevice};
-use ioa_log::replay_list;
+use ioa_replay::replay_list;
 use ioa_system::End;
 use std::alloc::Global;
 

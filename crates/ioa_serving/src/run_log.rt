@@ -8,7 +8,8 @@ ghost use Rattle.ioa_serving.specs.Resuming.{IsFrom, IsLogless, unread_log};
 use crate::failure::Failure;
 use crate::store::Store;
 use ioa_device::{Counted, LogErr};
-use ioa_log::{Log, LogEnd, read_log};
+use ioa_log::{Log, LogEnd};
+use ioa_replay::read_log;
 use ioa_value::Types;
 use std::alloc::Global;
 

@@ -7,7 +7,7 @@ use ioa_check::check;
 use ioa_compile::{Program, compile};
 use ioa_compose::compose;
 use ioa_device::Counted;
-use ioa_log::read_log;
+use ioa_replay::read_log;
 use ioa_syntax::{Source, parse};
 use ioa_system::Log;
 use ioa_value::{Action, Declarations, Types, read_action};

@@ -7,8 +7,8 @@ use crate::tests::reached::PUTS;
 use crate::tests::rooms::told_outcome;
 use crate::tests::threads::told_reports;
 use ioa_compile::Program;
-use ioa_log::replay;
 use ioa_monitor::monitor;
+use ioa_replay::replay;
 use ioa_rows::COUNTER;
 use ioa_run::{
     Board, OpenGate, Outcome, Room, RunErr, Seeded, resume_alone, resume_threads, run_alone,

@@ -22,7 +22,8 @@ use ioa_account::{
 use ioa_compile::compile;
 use ioa_compose::Composition;
 use ioa_device::{Counted, LogErr};
-use ioa_log::{begun_log, read_log};
+use ioa_log::begun_log;
+use ioa_replay::read_log;
 use ioa_request::Request;
 use ioa_serving::{
     Status, Store, StoreErr, compose_text, is_object, performed_in, put_monitor_counts,

@@ -7,7 +7,7 @@ use Rattle.ioa_compose.specs.Held.{composed_of}
 use Rattle.ioa_compile.specs.Programs.{Prog}
 use Rattle.ioa_system.specs.Logs.{Logged, actions_of, logged}
 use Rattle.ioa_log.specs.Judging.{TellsVerdict}
-use Rattle.ioa_log.proofs.LogReplays.{judged_as}
+use Rattle.ioa_log.proofs.AgreeingLogs.{judged_as}
 use Rattle.ioa_inspect.specs.Breaking.{broken_of}
 use Rattle.ioa_inspect.proofs.Breaking.{runs_through}
 use Rattle.ioa_inspect.proofs.Inspected.{inspected_as}

@@ -20,10 +20,11 @@ use Rattle.ioa_system.specs.Outcomes.{ending_of}
 use Rattle.ioa_system.specs.Systems.{slot_types, values_of}
 use Rattle.ioa_system.proofs.Finding.{read_map}
 use Rattle.ioa_device.specs.declared.failure.LogErr.{LogErr}
-use Rattle.ioa_log.specs.Following.{HasTraced}
+use Rattle.ioa_replay.specs.Traced.{HasTraced}
 use Rattle.ioa_log.specs.Judging.{TellsVerdict}
 use Rattle.ioa_log.proofs.EntryByEntry.{judges_entry_by_entry}
-use Rattle.ioa_log.proofs.Following.{all_taken, counts_entry, judged_step, one_taken, refused_log}
+use Rattle.ioa_log.proofs.Following.{counts_entry, judged_step, one_taken, refused_log}
+use Rattle.ioa_replay.proofs.Traced.{all_taken}
 use Rattle.ioa_inspect.specs.Breaking.{AreStates, AreTyped, broken_at_end, broken_of, states_in}
 use Rattle.ioa_inspect.proofs.Breaking.{Asked, asked_none, asked_more, asked_all, typed_states}
 use Rattle.ioa_inspect.proofs.broken_invariants.inspect_table.Goals as goal

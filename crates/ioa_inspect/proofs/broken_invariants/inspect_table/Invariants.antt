@@ -3,7 +3,7 @@ use Rattle.std.specs.Option.{option_map}
 use Rattle.ioa_compose.specs.Held.{composed_of}
 use Rattle.ioa_system.specs.Logs.{actions_of, log_entry, logged}
 use Rattle.ioa_system.specs.Progress.{reached_by}
-use Rattle.ioa_log.specs.Following.{HasTraced}
+use Rattle.ioa_replay.specs.Traced.{HasTraced}
 use Rattle.ioa_inspect.specs.Breaking.{broken_of}
 use Rattle.ioa_inspect.proofs.Breaking.{Asked}
 use Rattle.ioa_inspect.proofs.broken_invariants.inspect_table.Given as goal

@@ -18,7 +18,7 @@ use Rattle.ioa_device.specs.declared.failure.LogErr.{LogErr}
 use Rattle.ioa_device.specs.LineReading.{rest, to_come}
 use Rattle.ioa_device.proofs.LineReading.{line_came, line_taken, none_came, nothing_taken, of_all, of_line, of_more, of_stop, some_came}
 use Rattle.ioa_log.specs.LogReadings.{HasHeard, HearsLine}
-use Rattle.ioa_log.specs.LogReplays.{IsNoLog}
+use Rattle.ioa_log.specs.AgreeingLogs.{IsNoLog}
 use Rattle.ioa_log.proofs.Following.{counts_entry}
 use Rattle.ioa_log.proofs.LineJudging.{as_many_lines, text_goes_on}
 use Rattle.ioa_inspect.specs.Breaking.{AreStates, broken_at_end, broken_of, states_in}

@@ -4,7 +4,7 @@ use Rattle.std.proofs.lemmas.Result.{IfErr-weaker, IfOk-weaker}
 use Rattle.ioa_tree.specs.Compositions.{Composed}
 use Rattle.ioa_compile.specs.Programs.{Prog}
 use Rattle.ioa_compose.specs.Held.{composed_of}
-use Rattle.ioa_log.proofs.LogReplays.{why_as}
+use Rattle.ioa_log.proofs.AgreeingLogs.{why_as}
 use Rattle.ioa_inspect.specs.LogInspections.{IsTableInspected}
 use Rattle.ioa_inspect.proofs.Breaking.{runs_through}
 use Rattle.ioa_inspect.proofs.LogInspections.{inspected_as}

@@ -5,7 +5,7 @@ use Rattle.ioa_value.specs.Table.{Table}
 use Rattle.ioa_system.specs.declared.log.LogEntry.{LogEntry}
 use Rattle.ioa_coverage.specs.Counts.{entered}
 use Rattle.ioa_coverage.specs.Covered.{its_coverage}
-use Rattle.ioa_log.specs.Readings.{IsListReplayed}
+use Rattle.ioa_replay.specs.ListReplays.{IsListReplayed}
 use Rattle.ioa_serving.specs.declared.at_hand.AtHand.{AtHand}
 use Rattle.ioa_serving.proofs.Covering.{covers_list, no_list, none_failed}
 use Rattle.ioa_serving.proofs.Refused.{err_so}

@@ -2,7 +2,8 @@ use Rattle.std.proofs.Common.{ℕ, List, ap, subst}
 use Rattle.std.proofs.lemmas.Result.{err_from_is_err_and}
 use Rattle.ioa_value.specs.Table.{Table}
 use Rattle.ioa_system.specs.Logs.{logged}
-use Rattle.ioa_log.specs.LogReplays.{IsNoLog, IsReplayedAs}
+use Rattle.ioa_log.specs.AgreeingLogs.{IsNoLog}
+use Rattle.ioa_replay.specs.LogReplays.{IsReplayedAs}
 use Rattle.ioa_log.specs.LogTexts.{ReadsLog}
 use Rattle.ioa_serving.specs.declared.at_hand.AtHand.{AtHand}
 use Rattle.ioa_serving.proofs.Covering.{covers_log}

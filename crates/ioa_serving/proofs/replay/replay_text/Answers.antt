@@ -4,7 +4,7 @@ use Rattle.std.proofs.lemmas.Option.{IfSome_then}
 use Rattle.std.proofs.lemmas.Result.{err_from_is_err_and}
 use Rattle.ioa_compile.proofs.Subjects.{does_as}
 use Rattle.ioa_device.specs.Failing.{HasFailed}
-use Rattle.ioa_log.specs.Replays.{BeginsReplay}
+use Rattle.ioa_replay.specs.ListReplays.{BeginsReplay}
 use Rattle.ioa_serving.specs.Failing.{BeginsReplayOf}
 use Rattle.ioa_serving.proofs.Refused.{err_so, kept, list_failed, list_ungiven, list_unwritten}
 use Rattle.ioa_serving.proofs.Kept.{keeps_same}

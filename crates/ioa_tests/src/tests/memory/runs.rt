@@ -7,7 +7,7 @@ use crate::tests::resumed::{log_of, seeded};
 use crate::tests::rooms::told_outcome;
 use crate::tests::threads::told_reports;
 use ioa_compile::Program;
-use ioa_log::replay;
+use ioa_replay::replay;
 use ioa_run::{
     OpenGate, Outcome, Report, RunErr, Why, resume_alone, resume_threads, run_alone, run_threads,
 };

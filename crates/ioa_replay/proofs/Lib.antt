@@ -1,0 +1,4 @@
+pub mod ListReplays
+pub mod LogReplays
+pub mod Traced
+pub mod Instances

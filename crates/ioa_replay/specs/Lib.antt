@@ -1,0 +1,3 @@
+pub mod ListReplays
+pub mod LogReplays
+pub mod Traced
