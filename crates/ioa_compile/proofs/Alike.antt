@@ -43,8 +43,8 @@ use Rattle.ioa_code.specs.declared.instr.PartKind.TheVariants.{Pre, Propose, Eff
 use Rattle.ioa_compile.specs.Programs.{EntryCode, MemberCode}
 use Rattle.ioa_compile.specs.Tables.{HasLocal, allows, entry_of, table_component, position_types, parameter_types}
 use Rattle.ioa_compile.specs.Correspondence.{Corresponds}
-use Rattle.ioa_compile.specs.Scopes.{Scope, scope_of, scope_of_proposals}
-use Rattle.ioa_compile.specs.Placed.{HasStmts, HasProposals}
+use Rattle.ioa_emit.specs.Scopes.{Scope, scope_of, scope_of_proposals}
+use Rattle.ioa_emit.specs.Placed.{HasStmts, HasProposals}
 use Rattle.ioa_compile.specs.CodeEnds.{required, GuardEnds, EffectEnds, ProposalEnds}
 use Rattle.ioa_compile.specs.Matching.{AreTypesOf, MatchesEntry}
 use Rattle.ioa_compile.specs.Translated.{IsGuard, IsGuardFor, IsProposing, codes_of, IsEntryOf, IsTranslated, IsFor}
@@ -107,14 +107,14 @@ enabling-required types (Some e) env = refl
 
 -- ---- the environment of an entry
 
-swapped : (f p v : Option Val) → (v ≡ None) ⊎ ((f ≡ None) × (p ≡ None)) → or_else f (or_else p v) ≡ or_else v (or_else f p)
+pub swapped : (f p v : Option Val) → (v ≡ None) ⊎ ((f ≡ None) × (p ≡ None)) → or_else f (or_else p v) ≡ or_else v (or_else f p)
 swapped f p v (inl e) =
     ap (λ o. or_else f (or_else p o)) e ∙ ap (or_else f) (or_none p) ∙ sym (ap (λ o. or_else o (or_else f p)) e)
 swapped f p v (inr e) =
     ap (λ o. or_else o (or_else p v)) e.0 ∙ ap (λ o. or_else o v) e.1 ∙ sym (ap (λ o. or_else v (or_else o p)) e.0 ∙ ap (or_else v) e.1 ∙ or_none v)
 
 module _ (m : Member) (e : EntryTree) (vs ps : List ℕ) (h : Setting m e vs ps) (args : List Val) (values : HaveTypes m.instance.types args ps) where
-  separate : (x : Name) → (contains (variable_names m.instance.automaton) x ≡ false) ⊎ ((contains (field_names m.instance.automaton.formals) x ≡ false) × (contains (parameter_names e) x ≡ false))
+  pub separate : (x : Name) → (contains (variable_names m.instance.automaton) x ≡ false) ⊎ ((contains (field_names m.instance.automaton.formals) x ≡ false) × (contains (parameter_names e) x ≡ false))
   separate x = go (contains (variable_names m.instance.automaton) x) refl (contains (field_names m.instance.automaton.formals) x) refl (contains (parameter_names e) x) refl
     where
       go : (v : Bool) → contains (variable_names m.instance.automaton) x ≡ v → (f : Bool) → contains (field_names m.instance.automaton.formals) x ≡ f → (p : Bool) → contains (parameter_names e) x ≡ p → (v ≡ false) ⊎ ((f ≡ false) × (p ≡ false))

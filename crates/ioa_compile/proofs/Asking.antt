@@ -28,10 +28,10 @@ use Rattle.ioa_compose.specs.Questions.{OfThese}
 use Rattle.ioa_compile.specs.Asking.{AreAsked, AskAll, Asks, IsStateOf}
 use Rattle.ioa_compile.specs.CodeEnds.{GuardEnds}
 use Rattle.ioa_compile.specs.Correspondence.{Corresponds}
-use Rattle.ioa_compile.specs.Emitting.{AddsExpr}
+use Rattle.ioa_emit.specs.Emitting.{AddsExpr}
 use Rattle.ioa_compile.specs.Matching.{AreTypesOf}
-use Rattle.ioa_compile.specs.Placed.{HasExpr}
-use Rattle.ioa_compile.specs.Scopes.{Scope, IsScope, IsKnown, scope_of_proposals}
+use Rattle.ioa_emit.specs.Placed.{HasExpr}
+use Rattle.ioa_emit.specs.Scopes.{Scope, IsScope, IsKnown, scope_of_proposals}
 use Rattle.ioa_compile.specs.Translated.{IsFor, IsGuard}
 use Rattle.ioa_compile.proofs.Alike.{condition_comes, guard_says, Holds}
 use Rattle.ioa_compile.proofs.Fine.{Setting, bare, is_scope, known}

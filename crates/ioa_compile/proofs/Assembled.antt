@@ -19,7 +19,7 @@ use Rattle.ioa_tree.specs.Compositions.{Member}
 use Rattle.ioa_tree.specs.WellFormed.{is_input}
 use Rattle.ioa_compile.specs.Programs.{EntryCode}
 use Rattle.ioa_compile.specs.Tables.{HasLocal, position_types, parameter_types}
-use Rattle.ioa_compile.specs.Scopes.{scope_of, scope_of_proposals}
+use Rattle.ioa_emit.specs.Scopes.{scope_of, scope_of_proposals}
 use Rattle.ioa_compile.specs.Translated.{IsTransition, IsFor, codes_of, IsTranslated}
 
 -- what follows of the code that a locally controlled entry has

@@ -12,7 +12,7 @@ use Rattle.ioa_code.specs.Loops.{past, past_at, around, bodies, EndLater, held}
 use Rattle.ioa_code.specs.Valid.{Part, Way, way, after, fast_at, may_loop, body_start, Closes, Loops, found_in, Leads, Valid}
 use Rattle.ioa_code.proofs.Lists.{on_top-append}
 use Rattle.ioa_code.proofs.Bodies.{around_same, around_none, around_more}
-use Rattle.ioa_compile.specs.Placed.{At}
+use Rattle.ioa_emit.specs.Placed.{At}
 
 -- a list from a function of the place
 rows : {X : Type 0} → (ℕ → X) → ℕ → ℕ → List X

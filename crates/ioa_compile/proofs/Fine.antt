@@ -30,8 +30,8 @@ use Rattle.ioa_tree.proofs.Domains.{domains_are}
 use Rattle.ioa_tree.proofs.ValTyped.{type_of_one, types_of_both, types_of_row}
 use Rattle.ioa_compose.specs.Fine.{IsFine}
 use Rattle.ioa_crash.specs.Limits.{component_limits}
-use Rattle.ioa_compile.specs.Scopes.{Scope, within, scope_of, Origin, on_stack, slot, formal, parameter, fixed, unknown, origin, IsOrigin, IsKnown, AreAllKnown, IsKnownStmt, AreKnown, AreKnownArms, IsKnownGuard, IsScope, place_of}
-use Rattle.ioa_compile.specs.Emitting.{guard_nodes}
+use Rattle.ioa_emit.specs.Scopes.{Scope, within, scope_of, Origin, on_stack, slot, formal, parameter, fixed, unknown, origin, IsOrigin, IsKnown, AreAllKnown, IsKnownStmt, AreKnown, AreKnownArms, IsKnownGuard, IsScope, place_of}
+use Rattle.ioa_emit.specs.Emitting.{guard_nodes}
 use Rattle.ioa_compile.specs.Matching.{AreTypesOf}
 use Rattle.ioa_compile.specs.Tables.{position_types}
 use Rattle.ioa_compile.specs.Translated.{IsEntryOf}
@@ -39,7 +39,7 @@ use Rattle.ioa_compile.proofs.Looks.{look, looks, look_inside, Looked, name_same
 use Rattle.ioa_compile.proofs.Parameters.{types_of_domains}
 use Rattle.ioa_compile.proofs.Standing.{at, stands, in_turn, Names, named_at, names_within}
 use Rattle.ioa_compile.proofs.Fits.{fit_types, types_long, scope_look, fields_look, variables_names}
-use Rattle.ioa_compile.proofs.Fixed.{empty_known}
+use Rattle.ioa_emit.proofs.Fixed.{empty_known}
 use Rattle.ioa_compile.proofs.Tuples.{of_make, of_select, place_is, item_is}
 use Rattle.ioa_compile.proofs.Typed.{GuardTyped, StmtTyped, StmtsTyped, ArmsTyped}
 use Rattle.ioa_compile.proofs.Finds.{IsFirst, finds, same_item}

@@ -16,7 +16,7 @@ use Rattle.ioa_tree.specs.Instances.{Fit, field_names, variable_names}
 use Rattle.ioa_tree.specs.Compositions.{Member}
 use Rattle.ioa_tree.specs.WellFormed.{Context, type_in, context_of, position_fields, variable_fields, scope}
 use Rattle.ioa_crash.proofs.RewrittenTypes.{in_both}
-use Rattle.ioa_compile.specs.Scopes.{scope_of}
+use Rattle.ioa_emit.specs.Scopes.{scope_of}
 use Rattle.ioa_compile.specs.Matching.{AreTypesOf}
 use Rattle.ioa_compile.proofs.Looks.{look, or_else-assoc}
 use Rattle.ioa_compile.proofs.Parameters.{fields_passed}

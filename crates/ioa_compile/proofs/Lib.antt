@@ -1,12 +1,9 @@
-pub mod Views
 pub mod Tuples
-pub mod Lengths
-pub mod Emitted
+pub mod Grown
 pub mod Paired
 pub mod Looks
 pub mod Parameters
 pub mod Standing
-pub mod Fixed
 pub mod Fits
 pub mod Finds
 pub mod Sited

@@ -1,9 +1,7 @@
 -- What stands for an entry's parameters, which are some of its positions: constants are passed over, but have their places.
-use Rattle.std.proofs.Common.{◌≡◌, ℕ, ◌+◌, ◌<◌, inr, Bool, true, false, cond, List, [], ◌∷◌, ◌++◌, length, map, Option, Some, None, refl, sym, ap, ◌∙◌, arith}
-use Rattle.std.specs.List.{position, position_from}
+use Rattle.std.proofs.Common.{◌≡◌, ℕ, ◌+◌, inr, false, cond, List, [], ◌∷◌, ◌++◌, length, Option, Some, None, refl, sym, ap, ◌∙◌, arith}
 use Rattle.std.specs.Option.{option_map_or}
 use Rattle.std.specs.Str.{bytes_eq}
-use Rattle.std.proofs.lemmas.Iterator.Adapters.{position_from-zero}
 use Rattle.std.proofs.lemmas.List.{length-map}
 use Rattle.std.proofs.lemmas.Slice.Zip.{AllZip-long}
 use Rattle.std.proofs.lemmas.Bool.{or_parts}
@@ -12,15 +10,12 @@ use Rattle.ioa_value.specs.Plain.{Val}
 use Rattle.ioa_value.specs.Positions.{Domain, every, single, domain_type}
 use Rattle.ioa_value.specs.Table.{Table}
 use Rattle.ioa_value.specs.Typing.{HaveTypes}
-use Rattle.ioa_tree.specs.declared.tree.Position.{Position}
-use Rattle.ioa_tree.specs.declared.tree.Position.TheVariants.{Typed, Constant}
 use Rattle.ioa_tree.specs.Domains.{IsDomainOf, AreDomainsOf}
 use Rattle.ioa_tree.specs.Instances.{Instance, field_names, parameter_values, position_fields}
 use Rattle.ioa_tree.specs.Meaning.{values_of}
 use Rattle.ioa_tree.specs.Tree.{PositionTree, typed, only}
-use Rattle.ioa_tree.specs.View.{name_of, position_of}
 use Rattle.ioa_tree.specs.WellFormed.{Context, type_in, context_of, contains}
-use Rattle.ioa_compile.specs.Scopes.{parameter_from}
+use Rattle.ioa_emit.specs.Scopes.{parameter_from}
 use Rattle.ioa_compile.specs.Tables.{position_types}
 use Rattle.ioa_compile.proofs.Looks.{Looked, looked_first, Paired, paired_first}
 
@@ -86,30 +81,3 @@ domains_long i ps ds h = sym (AllZip-long (IsDomainOf i) ps ds h)
 
 pub types_of_domains : (i : Instance) (ps : List PositionTree) (ds : List Domain) → AreDomainsOf i ps ds → length ps ≡ length (position_types ds)
 types_of_domains i ps ds h = domains_long i ps ds h ∙ sym (length-map ds domain_type)
-
--- ---- the place of a parameter
-
--- the parameter has this name
-abbrev pub is_called : Name → PositionTree → Bool
-is_called x (typed f) = bytes_eq f.name x
-is_called x (only c) = false
-
-places : (x : Name) (i : ℕ) (ps : List Position) → position_from (λ p. is_called x (position_of p)) i ps ≡ parameter_from i (map position_of ps) x
-places x i [] = refl
-places x i (Typed f ∷ ps) = ap (cond (bytes_eq (name_of f.name) x) (Some i)) (places x (i + 1) ps)
-places x i (Constant c ∷ ps) = places x (i + 1) ps
-
-pub position-parameter : (x : Name) (ps : List Position) → position (λ p. is_called x (position_of p)) ps ≡ parameter_from 0 (map position_of ps) x
-position-parameter x ps = position_from-zero (λ p. is_called x (position_of p)) ps ∙ places x 0 ps
-
-parameter_from_below : (i : ℕ) (ps : List PositionTree) (x : Name) (k : ℕ) → parameter_from i ps x ≡ Some k → k < i + length ps
-parameter_from_below i [] x k e = absurd (cc)
-parameter_from_below i (typed f ∷ ps) x k e = go (bytes_eq f.name x) e (parameter_from_below (i + 1) ps x k)
-  where
-    go : (b : Bool) → cond b (Some i) (parameter_from (i + 1) ps x) ≡ Some k → (parameter_from (i + 1) ps x ≡ Some k → k < i + 1 + length ps) → k < i + length (typed f ∷ ps)
-    go true e rest = let same : i ≡ k = cc in omega arith
-    go false e rest = let r = rest e in omega arith
-parameter_from_below i (only c ∷ ps) x k e = let r = parameter_from_below (i + 1) ps x k e in omega arith
-
-pub parameter_below : (ps : List PositionTree) (x : Name) (k : ℕ) → parameter_from 0 ps x ≡ Some k → k < length ps
-parameter_below ps x k e = let r = parameter_from_below 0 ps x k e in omega arith

@@ -15,7 +15,7 @@ use Rattle.ioa_tree.specs.Compositions.{Member}
 use Rattle.ioa_tree.specs.Instances.{field_names, position_fields}
 use Rattle.ioa_tree.specs.WellFormed.{Context, type_in, type_of, is_some_of, has_ty, contains, distinct, is_type, context_of, is_input, is_numbered, is_tried, held, scope, pre_fine, choice_fine, proposal_fine, proposals_fine, all_proposed, input_fine, effect_fine, transition_fine}
 use Rattle.ioa_tree.proofs.FineParts.{EntryParts}
-use Rattle.ioa_compile.specs.Scopes.{scope_of_proposals, proposal_for, IsKnown, IsKnownProposal, AreKnownProposals}
+use Rattle.ioa_emit.specs.Scopes.{scope_of_proposals, proposal_for, IsKnown, IsKnownProposal, AreKnownProposals}
 use Rattle.ioa_compile.proofs.Fine.{Setting, bare_setting, bare, known}
 use Rattle.ioa_compile.proofs.Finds.{contains_at}
 use Rattle.ioa_compile.proofs.Looks.{name_same, not_true}

@@ -29,8 +29,8 @@ use Rattle.ioa_tree.specs.Types.{constant, empty_of}
 use Rattle.ioa_tree.specs.WellFormed.{Context, contains, type_in, type_of, types_of_all, infix_type}
 use Rattle.ioa_tree.specs.Answers.{Suits}
 use Rattle.ioa_tree.proofs.ValTyped.{val_typed, type_of_one, types_of_both, types_of_row}
-use Rattle.ioa_compile.specs.Scopes.{Scope, within, Origin, on_stack, slot, formal, parameter, fixed, unknown, origin, item_place}
-use Rattle.ioa_compile.specs.Placed.{Stretch, At, Pushes, PushesTruth, Brings, Chooses, Combines, HasExpr, HasExprs, HasStmt, HasStmts, HasArms}
+use Rattle.ioa_emit.specs.Scopes.{Scope, within, Origin, on_stack, slot, formal, parameter, fixed, unknown, origin, item_place}
+use Rattle.ioa_emit.specs.Placed.{Stretch, At, Pushes, PushesTruth, Brings, Chooses, Combines, HasExpr, HasExprs, HasStmt, HasStmts, HasArms}
 use Rattle.ioa_compile.proofs.Looks.{look, look_at, look_set, look_outside, Paired}
 use Rattle.ioa_compile.proofs.Parameters.{passed}
 use Rattle.ioa_compile.proofs.Sequences.{list_of, one_less}

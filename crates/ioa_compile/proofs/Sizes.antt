@@ -10,10 +10,10 @@ use Rattle.ioa_code.specs.Machine.{Listing}
 use Rattle.ioa_tree.specs.Tree.{Expr, Stmts, PositionTree, typed, only, expr_in, ProposalTree}
 use Rattle.ioa_tree.specs.Instances.{field_names, position_fields}
 use Rattle.ioa_tree.specs.WellFormed.{nodes, stmts_nodes, contains, distinct}
-use Rattle.ioa_compile.specs.Scopes.{Scope, proposal_for}
-use Rattle.ioa_compile.specs.Placed.{HasGuard, HasStmts, HasProposals}
-use Rattle.ioa_compile.specs.Emitting.{guard_nodes, proposal_nodes, proposals_nodes}
-use Rattle.ioa_compile.proofs.Lengths.{guard_long, guard_small, stmts_long, stmts_small, proposals_long, proposals_small}
+use Rattle.ioa_emit.specs.Scopes.{Scope, proposal_for}
+use Rattle.ioa_emit.specs.Placed.{HasGuard, HasStmts, HasProposals}
+use Rattle.ioa_emit.specs.Emitting.{guard_nodes, proposal_nodes, proposals_nodes}
+use Rattle.ioa_emit.proofs.Lengths.{guard_long, guard_small, stmts_long, stmts_small, proposals_long, proposals_small}
 use Rattle.ioa_compile.proofs.Looks.{name_same, not_true}
 
 module _ (code : Listing) (s : Scope) where

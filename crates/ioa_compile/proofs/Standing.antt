@@ -11,8 +11,8 @@ use Rattle.ioa_value.proofs.ItemLemmas.{item_there, get_append, get_last}
 use Rattle.ioa_tree.specs.Meaning.{or_else}
 use Rattle.ioa_tree.specs.Types.{constant, constant_type}
 use Rattle.ioa_tree.specs.WellFormed.{Context, type_in}
-use Rattle.ioa_compile.specs.Scopes.{Scope, within, Origin, on_stack, slot, formal, parameter, fixed, unknown, origin, item_place, parameter_from}
-use Rattle.ioa_compile.proofs.Fixed.{own_constant}
+use Rattle.ioa_emit.specs.Scopes.{Scope, within, Origin, on_stack, slot, formal, parameter, fixed, unknown, origin, item_place, parameter_from}
+use Rattle.ioa_emit.proofs.Fixed.{own_constant}
 use Rattle.ioa_compile.proofs.Looks.{look, looks, Looked, look-paired, or_else-assoc, Paired}
 use Rattle.ioa_compile.proofs.Parameters.{passed, passes_at, passed-paired}
 

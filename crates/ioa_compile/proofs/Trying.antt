@@ -21,8 +21,8 @@ use Rattle.ioa_tree.specs.Proposing.{Words, Tried, tries, then_try, exact, below
 use Rattle.ioa_tree.specs.WellFormed.{Context, is_numbered}
 use Rattle.ioa_tree.proofs.ValTyped.{val_typed}
 use Rattle.ioa_compile.specs.CodeEnds.{ProposalEnds}
-use Rattle.ioa_compile.specs.Placed.{At, HasChoice, HasProposal, HasProposals}
-use Rattle.ioa_compile.specs.Scopes.{Scope, proposal_for}
+use Rattle.ioa_emit.specs.Placed.{At, HasChoice, HasProposal, HasProposals}
+use Rattle.ioa_emit.specs.Scopes.{Scope, proposal_for}
 use Rattle.ioa_compile.proofs.Proposed.{ChoiceTyped, ProposalTyped, ProposalsTyped}
 use Rattle.ioa_compile.proofs.Running as running
 use Rattle.ioa_compile.proofs.Running.{Comes, comes_on, step, moves, Reaches, Agrees, expr_runs}

@@ -11,7 +11,7 @@ use Rattle.ioa_tree.specs.Meaning.{made, selected}
 use Rattle.ioa_tree.specs.Tree.{Expr, make, select, Exprs}
 use Rattle.ioa_tree.specs.WellFormed.{Context, type_of, types_of_all, made_type, selected_type}
 use Rattle.ioa_tree.proofs.ValTyped.{type_there}
-use Rattle.ioa_compile.specs.Scopes.{Scope, item_of, place_of}
+use Rattle.ioa_emit.specs.Scopes.{Scope, item_of, place_of}
 
 module _ (types : Table) (c : Context) where
   -- a tuple, where its name is a type's and its fields have types that this takes

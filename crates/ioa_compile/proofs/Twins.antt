@@ -27,9 +27,9 @@ use Rattle.ioa_crash.specs.Limits.{component_limits}
 use Rattle.ioa_compile.specs.Programs.{EntryCode, MemberCode, Prog}
 use Rattle.ioa_compile.specs.Tables as programs
 use Rattle.ioa_compile.specs.Tables.{is_in, table_component, position_types, parameter_types, HasLocal, IsPart, IsPartOf, IsEntry, AreEntries, IsMember, AreMembers, IsProgram}
-use Rattle.ioa_compile.specs.Scopes.{Scope, scope_of, scope_of_proposals}
+use Rattle.ioa_emit.specs.Scopes.{Scope, scope_of, scope_of_proposals}
 use Rattle.ioa_compile.specs.Matching.{AreTypesOf, MatchesEntry}
-use Rattle.ioa_compile.specs.Emitting.{guard_nodes, proposals_nodes}
+use Rattle.ioa_emit.specs.Emitting.{guard_nodes, proposals_nodes}
 use Rattle.ioa_compile.specs.Translated.{IsGuard, IsProposing, IsFor, codes_of, IsTranslated, IsEntryOf, DoesSame}
 use Rattle.ioa_compile.proofs.Fine.{small_of, few_positions_of, domains_of, entry_of}
 use Rattle.ioa_tree.proofs.Domains.{domains_have}

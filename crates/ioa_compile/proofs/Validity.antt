@@ -32,8 +32,8 @@ use Rattle.ioa_tree.specs.Domains.{AreDomainsOf}
 use Rattle.ioa_tree.specs.Instances.{Instance}
 use Rattle.ioa_tree.specs.WellFormed.{Context, type_in, type_of, types_of_all, of_truths, infix_type, held, scope, context_of, variable_fields, is_numbered}
 use Rattle.ioa_tree.proofs.ValTyped.{type_of_one, types_of_both, types_of_row, are_truths}
-use Rattle.ioa_compile.specs.Scopes.{Scope, within, scope_of, scope_of_proposals, proposal_for, Origin, on_stack, slot, formal, parameter, fixed, unknown, origin}
-use Rattle.ioa_compile.specs.Placed.{Stretch, At, Pushes, PushesTruth, Brings, Applies, Chooses, Combines, HasExpr, HasExprs, HasGuard, HasStmt, HasStmts, HasArms, HasChoice, HasProposal, HasProposals}
+use Rattle.ioa_emit.specs.Scopes.{Scope, within, scope_of, scope_of_proposals, proposal_for, Origin, on_stack, slot, formal, parameter, fixed, unknown, origin}
+use Rattle.ioa_emit.specs.Placed.{Stretch, At, Pushes, PushesTruth, Brings, Applies, Chooses, Combines, HasExpr, HasExprs, HasGuard, HasStmt, HasStmts, HasArms, HasChoice, HasProposal, HasProposals}
 use Rattle.ioa_compile.specs.Tables.{parameter_types}
 use Rattle.ioa_compile.specs.Translated.{IsGuard, IsProposing, IsEffect}
 use Rattle.ioa_compile.proofs.Standing.{at, LiesOn, lies_itself, lies_below, in_turn, Names, named_at, names_within}
@@ -41,7 +41,7 @@ use Rattle.ioa_compile.proofs.Fine.{Setting, bare_setting, bare, names_of, varia
 use Rattle.ioa_compile.proofs.Typed.{GuardTyped, StmtTyped, StmtsTyped, ArmsTyped}
 use Rattle.ioa_compile.proofs.Proposed.{ChoiceTyped, ProposalTyped, ProposalsTyped, bare_typed}
 use Rattle.ioa_compile.proofs.Tuples.{of_make, of_select, place_is, item_is}
-use Rattle.ioa_compile.proofs.Fixed.{own_empty}
+use Rattle.ioa_emit.proofs.Fixed.{own_empty}
 use Rattle.ioa_compile.proofs.Blocks.{Round, Block, none, one, join, fork, turn, high_enough, valid}
 
 -- the types of what names stand for, in a part for variables vs and values ps, within loops that have these on the stack

@@ -1,6 +1,6 @@
 -- Programs as plain data in a row, so that models can hold programs.
 use Rattle.std.specs.Prelude.{List, Option, refl}
-use Rattle.std.specs.Coded.{Coded, code_by, coded×, coded_ℕ, coded_list, coded_option}
+use Rattle.std.specs.Coded.{Coded, code_by, coded×, coded_list, coded_option}
 use Rattle.ioa_value.specs.Actions.{Name}
 use Rattle.ioa_value.specs.Table.{Table}
 use Rattle.ioa_value.specs.Coded.{coded_domain, coded_table}
@@ -11,10 +11,8 @@ use Rattle.ioa_node.specs.Coded.{coded_node}
 use Rattle.ioa_node.specs.Nodes.{Node}
 use Rattle.ioa_tree.specs.declared.tree.Kind.{Kind}
 use Rattle.ioa_tree.specs.contracts.tree.Kind as kinds
+use Rattle.ioa_emit.specs.CodedScopes.{coded_name}
 use Rattle.ioa_compile.specs.Programs.{EntryCode, MemberCode, Prog}
-
-abbrev pub coded_name : Coded Name
-coded_name = coded_list coded_ℕ
 
 abbrev pub coded_entry : Coded EntryCode
 coded_entry =

@@ -12,10 +12,5 @@ pub mod Matching
 pub mod Implements
 pub mod Subjects
 pub mod Hosts
-pub mod Scopes
-pub mod CodedScopes
-pub mod Placed
-pub mod Extents
-pub mod Emitting
 pub mod Translated
 pub mod Asking

@@ -5,7 +5,8 @@ use Rattle.ioa_value.specs.Table.{contains}
 use Rattle.ioa_tree.specs.Components.{is_output}
 use Rattle.ioa_clash.specs.Index.{IsIndexOf, named_in}
 use Rattle.ioa_clash.specs.declared.index.Index.{Index}
-use Rattle.ioa_compile.specs.declared.sites.Site.{Site}
+use Rattle.ioa_sites.specs.declared.sites.Site.{Site}
+use Rattle.ioa_sites.specs.Sites.{site_by}
 use Rattle.ioa_compile.specs.Programs.{EntryCode, MemberCode, Prog}
 
 abbrev pub code_name : EntryCode → Name
@@ -20,7 +21,7 @@ abbrev pub is_shown : List Name → EntryCode → Bool
 is_shown hidden e = is_output (Some e.kind) && not (contains hidden e.name)
 
 abbrev pub site_of : List Name → ℕ → ℕ → EntryCode → Site
-site_of hidden c k e = record { component = c; entry = k; shown = is_shown hidden e }
+site_of hidden c k e = site_by (is_shown hidden) c k e
 
 -- the sites of the entries of this name, each once, in ascending order
 abbrev pub sites_of : Prog → Name → List Site

@@ -18,9 +18,9 @@ use Rattle.ioa_compile.specs.Correspondence.{Corresponds}
 use Rattle.ioa_tree.specs.Likes.{IsLike}
 use Rattle.ioa_compile.specs.Programs.{EntryCode, MemberCode}
 use Rattle.ioa_compile.specs.Tables.{HasLocal, IsMember, table_component, position_types, parameter_types}
-use Rattle.ioa_compile.specs.Emitting.{guard_nodes, proposals_nodes}
-use Rattle.ioa_compile.specs.Scopes.{Scope, scope_of, scope_of_proposals}
-use Rattle.ioa_compile.specs.Placed.{HasGuard, HasStmts, HasProposals}
+use Rattle.ioa_emit.specs.Emitting.{guard_nodes, proposals_nodes}
+use Rattle.ioa_emit.specs.Scopes.{Scope, scope_of, scope_of_proposals}
+use Rattle.ioa_emit.specs.Placed.{HasGuard, HasStmts, HasProposals}
 
 -- the whole code is the precondition's
 pub record IsGuard (code : Listing) (s : Scope) (g : Option Expr) : Type 0 where

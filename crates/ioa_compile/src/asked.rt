@@ -16,13 +16,12 @@ ghost use Rattle.ioa_compose.specs.Questions.{OfThese};
 ghost use Rattle.ioa_compile.specs.Asking.{AskAll, Asks, IsStateOf};
 ghost use Rattle.ioa_compile.specs.Matching.{AreTypesOf};
 
-use crate::emitter::emit_expression;
 use crate::entries::verified;
-use crate::scope::Scope;
 use crate::space::Space;
 use crate::types::variable_types;
 use ioa_code::{Code, PartKind, Verified};
 use ioa_compose::{Composition, Member};
+use ioa_emit::{Scope, emit_expression};
 use ioa_node::{NodeState, enabled};
 use ioa_tree::Expression;
 use ioa_value::{OutOfMemory, Ty};

@@ -20,12 +20,12 @@ ghost use Rattle.ioa_compile.specs.Shown.{entry_code};
 ghost use Rattle.ioa_compile.specs.Matching.{AreTypesOf};
 ghost use Rattle.ioa_compile.specs.Translated.{IsEntryOf, IsTranslated};
 
-use crate::scope::Scope;
 use crate::table::Entry;
 use crate::transition::transition_code;
 use crate::types::{parameter_types, position_types};
 use ioa_code::{Code, CodeErr, Env, PartKind, Verified, verify};
 use ioa_compose::Member;
+use ioa_emit::Scope;
 use ioa_tree::{Automaton, Entry as EntryTree, Transition};
 use ioa_value::{OutOfMemory, Position, Ty, Types};
 use std::alloc::Global;

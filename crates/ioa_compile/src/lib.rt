@@ -15,16 +15,10 @@ mod sites;
 mod table;
 mod tables;
 
-// What names and types become in code.
-mod name_places;
-mod scope;
-mod types;
-
-// Code of transitions.
-mod emitter;
-mod extents;
+// Types, and code of transitions.
 mod proposals;
 mod transition;
+mod types;
 
 // The compiler.
 mod compiler;
@@ -45,7 +39,6 @@ pub use limits::MOST_PLACES;
 pub use named::{Named, is_given, is_named};
 pub use program::Program;
 pub use rightness::is_output;
-pub use sites::Site;
 pub use table::{Entry, Member};
 pub use tables::{TableErr, Tables};
 pub use types::{parameter_types, position_types};

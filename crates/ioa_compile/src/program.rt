@@ -6,9 +6,10 @@ ghost use Rattle.ioa_compile.specs.Shown.{member_code};
 ghost use Rattle.ioa_compile.specs.Sites as spec;
 ghost use Rattle.ioa_compile.specs.Tables.{IsProgram};
 
-use crate::sites::{Site, index_of};
+use crate::sites::index_of;
 use crate::table::Member;
 use ioa_compose::Index;
+use ioa_sites::Site;
 use ioa_value::{OutOfMemory, Types};
 use std::alloc::Global;
 use std::marker::Model;

@@ -6,14 +6,12 @@ ghost use Rattle.ioa_code.specs.Parts.{listing};
 ghost use Rattle.ioa_tree.specs.View.{field_of, choice_of, position_of, proposal_of};
 ghost use Rattle.ioa_tree.specs.Tree.{expr_in};
 ghost use Rattle.ioa_tree.specs.WellFormed.{nodes};
-ghost use Rattle.ioa_compile.specs.Scopes.{IsKnown, IsKnownProposal, AreKnownProposals, proposal_for as proposal_tree};
-ghost use Rattle.ioa_compile.specs.Extents.{choice_extent, proposal_extent, proposals_extent};
-ghost use Rattle.ioa_compile.specs.Emitting.{proposal_nodes, proposals_nodes, AddsChoice, AddsProposal, AddsProposals};
+ghost use Rattle.ioa_emit.specs.Scopes.{IsKnown, IsKnownProposal, AreKnownProposals, proposal_for as proposal_tree};
+ghost use Rattle.ioa_emit.specs.Extents.{choice_extent, proposal_extent, proposals_extent};
+ghost use Rattle.ioa_emit.specs.Emitting.{proposal_nodes, proposals_nodes, AddsChoice, AddsProposal, AddsProposals};
 
-use crate::emitter::{emit_expression, put};
-use crate::scope::Scope;
-use crate::types::named_type;
 use ioa_code::{Code, Instr};
+use ioa_emit::{Scope, emit_expression, named_type, put};
 use ioa_tree::{Choice, Field, Position, Proposal};
 use ioa_value::OutOfMemory;
 use std::alloc::Global;

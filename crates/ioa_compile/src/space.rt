@@ -3,9 +3,9 @@
 ghost use Rattle.std.specs.Prelude.{◌≡◌, ◌+◌, ◌<◌, ◌⊎◌, IfSome, IfNone};
 ghost use Rattle.ioa_tree.specs.View.{expr_of, exprs_of};
 ghost use Rattle.ioa_tree.specs.WellFormed.{exprs_nodes, nodes as nodes_of};
-ghost use Rattle.ioa_compile.specs.Extents.{extent, exprs_extent};
+ghost use Rattle.ioa_emit.specs.Extents.{extent, exprs_extent};
 
-use crate::extents::extent_beside;
+use ioa_emit::extent_beside;
 use ioa_tree::Expression;
 
 /// Space for so many nodes of trees, each of which has a constant at most, and for so many instructions.

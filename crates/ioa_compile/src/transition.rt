@@ -9,14 +9,13 @@ ghost use Rattle.ioa_tree.specs.View.{expr_of, stmts_of, entry_of, transition_of
 ghost use Rattle.ioa_tree.specs.WellFormed.{stmts_nodes};
 ghost use Rattle.ioa_value.specs.declared.limits.TheConstants.{LIMITS};
 ghost use Rattle.ioa_crash.specs.Limits.{component_limits};
-ghost use Rattle.ioa_compile.specs.Scopes.{AreKnown, AreKnownProposals, IsKnownGuard};
-ghost use Rattle.ioa_compile.specs.Emitting.{guard_nodes, proposals_nodes, IsGrown};
+ghost use Rattle.ioa_emit.specs.Scopes.{AreKnown, AreKnownProposals, IsKnownGuard};
+ghost use Rattle.ioa_emit.specs.Emitting.{guard_nodes, proposals_nodes, IsGrown};
 ghost use Rattle.ioa_compile.specs.Translated.{IsGuard, IsProposing, IsEffect, IsTransition};
 
-use crate::emitter::{emit_guard, emit_statements};
 use crate::proposals::emit_proposals;
-use crate::scope::Scope;
 use ioa_code::{Code, Instr};
+use ioa_emit::{Scope, emit_guard, emit_statements};
 use ioa_tree::{Entry, Expression, Kind, Proposal, Statement, Transition};
 use ioa_value::{OutOfMemory, Value, copies};
 use std::alloc::Global;

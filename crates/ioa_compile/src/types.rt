@@ -1,16 +1,16 @@
 //! The types for which parts of code are verified: of variables, of positions, of parameters.
 
-ghost use Rattle.std.specs.Prelude.{◌≡◌, map, Some, IfOk, IsSome, IsTrue};
+ghost use Rattle.std.specs.Prelude.{◌≡◌, map, IfOk, IsTrue};
 ghost use Rattle.std.specs.List.{list_all};
 ghost use Rattle.ioa_value.specs.Plain.{number};
-ghost use Rattle.ioa_value.specs.Table.{type_named};
 ghost use Rattle.ioa_value.specs.Positions.{domain_of};
-ghost use Rattle.ioa_tree.specs.View.{name_of, field_of, variable_of};
+ghost use Rattle.ioa_tree.specs.View.{field_of, variable_of};
 ghost use Rattle.ioa_tree.specs.WellFormed.{is_type};
 ghost use Rattle.ioa_compile.specs.Tables.{position_types as types_of_positions, parameter_types as types_of_parameters};
 ghost use Rattle.ioa_compile.specs.Matching.{IsTypeOf, AreTypesOf};
 
-use ioa_tree::{Field, Name, Variable};
+use ioa_emit::named_type;
+use ioa_tree::{Field, Variable};
 use ioa_value::{OutOfMemory, Position, Ty, Types};
 use std::alloc::Global;
 
@@ -60,15 +60,4 @@ fn type_of(types: &Types, field: &Field) -> Ty
     ensures { IsTypeOf types.now (field_of field.now) (number result) }
 {
     named_type(types, &field.ty)
-}
-
-/// The type of this name, which is declared.
-pub(crate) fn named_type(types: &Types, name: &Name) -> Ty
-    requires { IsSome (type_named types.now (name_of name.now)) }
-    ensures { type_named types.now (name_of name.now) ≡ Some (number result) }
-{
-    match types.named(name.text.as_str()) {
-        Some(ty) => ty,
-        None => unreachable!(),
-    }
 }

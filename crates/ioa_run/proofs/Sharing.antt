@@ -31,7 +31,7 @@ use Rattle.ioa_code.specs.contracts.verified.Verified as Verified
 use Rattle.ioa_node.specs.contracts.state.NodeState as NodeState
 use Rattle.ioa_node.specs.contracts.state.Slots as Slots
 use Rattle.ioa_compile.specs.contracts.program.Program as Program
-use Rattle.ioa_compile.specs.contracts.sites.Site as Site
+use Rattle.ioa_sites.specs.contracts.sites.Site as Site
 use Rattle.ioa_compile.specs.contracts.table.Entry as Entry
 use Rattle.ioa_compile.specs.contracts.table.Member as Member
 use Rattle.ioa_system.specs.contracts.log.LogEntry as LogEntry

@@ -20,7 +20,7 @@ use Rattle.ioa_tree.specs.Runs.{is_external}
 use Rattle.ioa_tree.specs.Steps.{participants_from, participants, owner_from, owner}
 use Rattle.ioa_clash.specs.Index.{named_among, named_in}
 use Rattle.ioa_clash.proofs.IndexLemmas.{is-of}
-use Rattle.ioa_compile.specs.declared.sites.Site.{Site}
+use Rattle.ioa_sites.specs.declared.sites.Site.{Site}
 use Rattle.ioa_compile.specs.Programs.{EntryCode, MemberCode, Prog}
 use Rattle.ioa_compile.specs.Shown.{entry_code}
 use Rattle.ioa_compile.specs.Sites.{code_name, entry_lists, site_of, sites_of}

@@ -9,7 +9,7 @@ use Rattle.ioa_tree.specs.declared.tree.Kind.{Kind}
 use Rattle.ioa_tree.specs.Components.{Component, has, is_local}
 use Rattle.ioa_tree.specs.Steps as steps
 use Rattle.ioa_tree.specs.Steps.{participants}
-use Rattle.ioa_compile.specs.declared.sites.Site.{Site}
+use Rattle.ioa_sites.specs.declared.sites.Site.{Site}
 use Rattle.ioa_compile.specs.Programs.{EntryCode, MemberCode, Prog}
 use Rattle.ioa_compile.specs.Shown.{entry_code, member_code}
 use Rattle.ioa_compile.specs.Sites.{sites_of}

@@ -11,7 +11,8 @@ ghost use Rattle.ioa_system.specs.Found as spec;
 ghost use Rattle.ioa_system.specs.Found.{AreParticipants, IsSite, IsTaker, takes_at};
 ghost use Rattle.ioa_system.specs.Logs as logs;
 
-use ioa_compile::{Entry, Member, Program, Site};
+use ioa_compile::{Entry, Member, Program};
+use ioa_sites::Site;
 use ioa_tree::Kind;
 use ioa_value::{Action, OutOfMemory, all_take};
 use std::alloc::Global;

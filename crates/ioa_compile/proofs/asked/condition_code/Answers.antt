@@ -6,7 +6,7 @@ use Rattle.ioa_code.specs.Parts.{listing}
 use Rattle.ioa_code.specs.Valid.{Part}
 use Rattle.ioa_tree.specs.View.{expr_of}
 use Rattle.ioa_compose.specs.Held.{member_of}
-use Rattle.ioa_compile.specs.Scopes.{IsKnown, scope_of_proposals}
+use Rattle.ioa_emit.specs.Scopes.{IsKnown, scope_of_proposals}
 use Rattle.ioa_compile.specs.Translated.{IsFor, IsGuard}
 use Rattle.ioa_compile.proofs.Asking.{asks, condition_known, condition_made, condition_scope, condition_valid}
 use Rattle.ioa_compile.proofs.asked.condition_code.Goals as goal

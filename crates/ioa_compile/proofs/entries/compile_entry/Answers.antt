@@ -19,7 +19,7 @@ use Rattle.ioa_compose.specs.Fine.{IsFine}
 use Rattle.ioa_crash.specs.Limits.{component_limits}
 use Rattle.ioa_compose.specs.Held.{member_of}
 use Rattle.ioa_compile.specs.Shown.{entry_code}
-use Rattle.ioa_compile.specs.Scopes.{Scope, scope_of, scope_of_proposals, IsScope, IsKnownGuard, AreKnownProposals, AreKnown}
+use Rattle.ioa_emit.specs.Scopes.{Scope, scope_of, scope_of_proposals, IsScope, IsKnownGuard, AreKnownProposals, AreKnown}
 use Rattle.ioa_compile.specs.Matching.{AreTypesOf}
 use Rattle.ioa_compile.specs.Tables.{position_types, parameter_types}
 use Rattle.ioa_compile.specs.Translated.{IsEntryOf, IsGuard, IsProposing, IsTransition}

@@ -2,8 +2,8 @@ use Rattle.std.proofs.Common.{sym, subst}
 use Rattle.std.proofs.lemmas.Result.{on_ok_weaker}
 use Rattle.ioa_code.specs.Parts.{listing}
 use Rattle.ioa_tree.specs.View.{expr_of, choice_of}
-use Rattle.ioa_compile.specs.Emitting.{AddsChoice}
-use Rattle.ioa_compile.proofs.Emitted.{adds_any}
+use Rattle.ioa_emit.specs.Emitting.{AddsChoice}
+use Rattle.ioa_emit.proofs.Emitted.{adds_any}
 use Rattle.ioa_compile.proofs.proposals.emit_choice.Goals as goal
 
 pub returns-in_ok-emit_expression-in-Any : goal.returns-in_ok-emit_expression-in-Any

@@ -4,8 +4,8 @@ use Rattle.std.proofs.lemmas.Result.{on_ok_weaker}
 use Rattle.ioa_value.specs.Table.{type_named}
 use Rattle.ioa_code.specs.Parts.{listing}
 use Rattle.ioa_tree.specs.View.{field_of, proposal_of}
-use Rattle.ioa_compile.specs.Emitting.{AddsProposal}
-use Rattle.ioa_compile.proofs.Emitted.{adds_pick, adds_proposed}
+use Rattle.ioa_emit.specs.Emitting.{AddsProposal}
+use Rattle.ioa_emit.proofs.Emitted.{adds_pick, adds_proposed}
 use Rattle.ioa_compile.proofs.proposals.emit_proposal.Goals as goal
 
 pub returns-in-Some : goal.returns-in-Some

@@ -5,11 +5,11 @@ use Rattle.ioa_value.proofs.ItemLemmas.{drop_item}
 use Rattle.ioa_code.specs.Parts.{listing}
 use Rattle.ioa_tree.specs.declared.tree.Position.{Position}
 use Rattle.ioa_tree.specs.View.{position_of, proposal_of}
-use Rattle.ioa_compile.specs.Extents.{proposals_extent}
-use Rattle.ioa_compile.specs.Scopes.{AreKnownProposals}
-use Rattle.ioa_compile.specs.Emitting.{AddsProposals, proposals_nodes}
-use Rattle.ioa_compile.proofs.Emitted.{adds_no_proposal, adds_position, nodes_first, extent_first, known_first}
-use Rattle.ioa_compile.proofs.Lengths.{proposals_long}
+use Rattle.ioa_emit.specs.Extents.{proposals_extent}
+use Rattle.ioa_emit.specs.Scopes.{AreKnownProposals}
+use Rattle.ioa_emit.specs.Emitting.{AddsProposals, proposals_nodes}
+use Rattle.ioa_emit.proofs.Emitted.{adds_no_proposal, adds_position, nodes_first, extent_first, known_first}
+use Rattle.ioa_emit.proofs.Lengths.{proposals_long}
 use Rattle.ioa_compile.proofs.proposals.emit_proposals.Goals as goal
 
 pub emit_position-requires-clause-known : goal.emit_position-requires-clause-known

@@ -2,9 +2,9 @@ use Rattle.std.proofs.Common.{◌+◌, ◌<◌, ◌^◌, length, drop, map}
 use Rattle.ioa_code.specs.Machine.{Listing}
 use Rattle.ioa_code.specs.Parts.{listing}
 use Rattle.ioa_tree.specs.View.{position_of, proposal_of}
-use Rattle.ioa_compile.specs.Extents.{proposals_extent}
-use Rattle.ioa_compile.specs.Scopes.{AreKnownProposals}
-use Rattle.ioa_compile.specs.Emitting.{AddsProposals, proposals_nodes}
+use Rattle.ioa_emit.specs.Extents.{proposals_extent}
+use Rattle.ioa_emit.specs.Scopes.{AreKnownProposals}
+use Rattle.ioa_emit.specs.Emitting.{AddsProposals, proposals_nodes}
 use Rattle.ioa_compile.proofs.proposals.emit_proposals.Given as goal
 
 abbrev pub invariant-loop-position : goal.invariant-loop-position

@@ -1,6 +1,6 @@
 use Rattle.std.proofs.Common.{◌≡◌, map, drop}
 use Rattle.ioa_tree.specs.View.{field_of, proposal_of}
-use Rattle.ioa_compile.specs.Scopes.{proposal_for}
+use Rattle.ioa_emit.specs.Scopes.{proposal_for}
 use Rattle.ioa_compile.proofs.proposals.proposal_for.Given as goal
 
 abbrev pub invariant-loop-proposal : goal.invariant-loop-proposal

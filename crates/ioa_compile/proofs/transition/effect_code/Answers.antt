@@ -1,6 +1,6 @@
 use Rattle.std.proofs.Common.{arith}
 use Rattle.ioa_tree.specs.View.{stmts_of}
-use Rattle.ioa_compile.proofs.Lengths.{stmts_small}
+use Rattle.ioa_emit.proofs.Lengths.{stmts_small}
 use Rattle.ioa_compile.proofs.transition.effect_code.Goals as goal
 
 pub emit_statements-requires-clause-short : goal.emit_statements-requires-clause-short

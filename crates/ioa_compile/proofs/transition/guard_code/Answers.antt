@@ -1,7 +1,7 @@
 use Rattle.std.proofs.Common.{arith}
 use Rattle.std.specs.Option.{option_map}
 use Rattle.ioa_tree.specs.View.{expr_of}
-use Rattle.ioa_compile.proofs.Lengths.{guard_small}
+use Rattle.ioa_emit.proofs.Lengths.{guard_small}
 use Rattle.ioa_compile.proofs.transition.guard_code.Goals as goal
 
 pub emit_guard-requires-clause-short : goal.emit_guard-requires-clause-short

@@ -1,7 +1,7 @@
 use Rattle.std.proofs.Common.{map, length, ap, arith}
 use Rattle.ioa_tree.specs.View.{position_of, proposal_of}
-use Rattle.ioa_compile.specs.Emitting.{proposals_nodes}
-use Rattle.ioa_compile.proofs.Lengths.{proposals_small}
+use Rattle.ioa_emit.specs.Emitting.{proposals_nodes}
+use Rattle.ioa_emit.proofs.Lengths.{proposals_small}
 use Rattle.ioa_compile.proofs.transition.proposals_code.Goals as goal
 
 pub emit_proposals-requires-clause-short : goal.emit_proposals-requires-clause-short

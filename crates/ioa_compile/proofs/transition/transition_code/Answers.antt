@@ -9,9 +9,9 @@ use Rattle.ioa_code.specs.Machine.{Listing}
 use Rattle.ioa_code.specs.Parts.{listing}
 use Rattle.ioa_tree.specs.View.{stmts_of, proposal_of, entry_of, transition_of}
 use Rattle.ioa_tree.specs.WellFormed.{stmts_nodes}
-use Rattle.ioa_compile.specs.Emitting.{proposals_nodes}
+use Rattle.ioa_emit.specs.Emitting.{proposals_nodes}
 use Rattle.ioa_compile.specs.Translated.{IsGuard, IsProposing, IsEffect}
-use Rattle.ioa_compile.proofs.Emitted.{local_is, with_consts, grown_guard, grown_proposals, grown_on}
+use Rattle.ioa_compile.proofs.Grown.{local_is, with_consts, grown_guard, grown_proposals, grown_on}
 use Rattle.ioa_compile.proofs.transition.transition_code.Goals as goal
 
 -- the same instructions, with these constants

@@ -1,7 +1,7 @@
 use Rattle.std.proofs.Common.{◌≡◌, List, get_or, sym, ap, subst, ◌∙◌, slice_get, false}
 use Rattle.std.proofs.lemmas.Option.{slice_get-get_or}
 use Rattle.ioa_value.specs.Actions.{act_of, Act}
-use Rattle.ioa_compile.specs.declared.sites.Site.{Site}
+use Rattle.ioa_sites.specs.declared.sites.Site.{Site}
 use Rattle.ioa_compile.specs.Programs.{Prog}
 use Rattle.ioa_compile.specs.Sites.{sites_of}
 use Rattle.ioa_system.specs.Found.{IsSite}

@@ -2,8 +2,8 @@ use Rattle.std.proofs.Common.{◌≡◌, ◌+◌, inl, inr, ⊎_elim, Option, So
 use Rattle.ioa_tree.specs.View.{expr_of, exprs_of}
 use Rattle.ioa_tree.specs.WellFormed.{exprs_nodes, nodes as nodes_of}
 use Rattle.ioa_compile.specs.declared.space.Space.{Space}
-use Rattle.ioa_compile.specs.Extents.{extent, exprs_extent}
-use Rattle.ioa_compile.proofs.Views.{made_of_slice}
+use Rattle.ioa_emit.specs.Extents.{extent, exprs_extent}
+use Rattle.ioa_emit.proofs.Views.{made_of_slice}
 use Rattle.ioa_compile.proofs.space.Space.+space.Goals as goal
 
 weaker : (P Q : Space → Type 0) (o : Option Space) → ((s : Space) → P s → Q s) → IfSome o P → IfSome o Q

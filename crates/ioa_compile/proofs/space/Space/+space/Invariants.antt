@@ -1,7 +1,7 @@
 use Rattle.std.proofs.Common.{◌≡◌, ◌+◌, drop}
 use Rattle.ioa_tree.specs.View.{exprs_of}
 use Rattle.ioa_tree.specs.WellFormed.{exprs_nodes}
-use Rattle.ioa_compile.specs.Extents.{exprs_extent}
+use Rattle.ioa_emit.specs.Extents.{exprs_extent}
 use Rattle.ioa_compile.proofs.space.Space.+space.Given as goal
 
 abbrev pub invariant-after_all-loop-expression : goal.invariant-after_all-loop-expression

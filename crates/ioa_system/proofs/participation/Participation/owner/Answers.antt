@@ -2,7 +2,7 @@ use Rattle.std.proofs.Common.{◌≡◌, ap, subst, ◌∙◌}
 use Rattle.std.specs.Option.{option_map}
 use Rattle.ioa_value.specs.Actions.{act_of}
 use Rattle.ioa_tree.specs.Steps.{owner}
-use Rattle.ioa_compile.specs.declared.sites.Site.{Site}
+use Rattle.ioa_sites.specs.declared.sites.Site.{Site}
 use Rattle.ioa_compile.specs.Tables.{tabled}
 use Rattle.ioa_system.specs.ProgramActions.{ProgramAction}
 use Rattle.ioa_system.proofs.Taking.{owner_told}

@@ -1,0 +1,5 @@
+pub mod Scopes
+pub mod CodedScopes
+pub mod Placed
+pub mod Extents
+pub mod Emitting
