@@ -22,7 +22,7 @@ ghost use Rattle.ioa_account.specs.Accounts.{IsAccount, AccountsFor, TellsLine};
 use crate::states::{is_down, put_component};
 use ioa_compile::Program;
 use ioa_compose::Composition;
-use ioa_node::NodeState;
+use ioa_flat::NodeState;
 use ioa_system::{End, Participation, Run, owner, run_list};
 use ioa_tree::Transition;
 use ioa_value::{Action, Fault, OutOfMemory, Types, print_action};
@@ -107,7 +107,7 @@ fn tell(
 {
     let component = component_of(program, actions, reached.end);
     let name = name_of(composition, component);
-    let is_down = is_down_in(composition, component, &reached.states);
+    let is_down = is_down_in(alloc, composition, component, &reached.states)?;
     let is_early = faults_early(alloc, program, actions, index, &reached.states)?;
     let why = why(
         alloc,
@@ -171,13 +171,18 @@ pub(crate) fn name_at<'a>(composition: &'a Composition, number: usize) -> &'a st
 }
 
 /// Whether it is down in these states.
-fn is_down_in(composition: &Composition, component: Option<usize>, states: &[NodeState]) -> bool
-    ensures { (h : Hosted) (hs : List (HostState Env)) → Simulates h (composed_of composition.now) → AllRelated (SlotsHoldAt h.hosts) 0 hs (values_of states.now)
-        → result ≡ spec.is_down_in h.hosts hs component }
+fn is_down_in(
+    alloc: Global,
+    composition: &Composition,
+    component: Option<usize>,
+    states: &[NodeState],
+) -> Result<bool, OutOfMemory>
+    ensures { IfOk result (λ down. (h : Hosted) (hs : List (HostState Env)) → Simulates h (composed_of composition.now) → AllRelated (SlotsHoldAt h.hosts) 0 hs (values_of states.now)
+        → down ≡ spec.is_down_in h.hosts hs component) }
 {
     match component {
-        Some(number) => is_down(composition, number, states),
-        None => false,
+        Some(number) => is_down(alloc, composition, number, states),
+        None => Ok(false),
     }
 }
 
@@ -298,7 +303,7 @@ fn lines_of(
 {
     let mut text = String::new(alloc);
     if let Some(number) = component {
-        put_component(&mut text, composition, number, states)?;
+        put_component(alloc, &mut text, composition, number, states)?;
     }
     Ok(text)
 }

@@ -12,12 +12,14 @@ ghost use Rattle.ioa_inspect.specs.Breaking.{AreStates, IsState};
 ghost use Rattle.ioa_account.specs.Faults as spec;
 
 use ioa_compose::Composition;
-use ioa_node::NodeState;
+use ioa_flat::{NodeState, state_values};
 use ioa_value::{Fault, OutOfMemory, Value};
+use std::alloc::Global;
 
 /// The fault that the invariant of this number has in the component of this number, where the components are in these states. None where it has a
 /// value there, or is of another automaton.
 pub(crate) fn invariant_fault(
+    alloc: Global,
     composition: &Composition,
     states: &[NodeState],
     component: usize,
@@ -28,13 +30,14 @@ pub(crate) fn invariant_fault(
         → f ≡ spec.invariant_fault h hs component invariant) }
 {
     match composition.invariants().get(invariant) {
-        Some(_) => slots_fault(composition, states, component, invariant),
+        Some(_) => slots_fault(alloc, composition, states, component, invariant),
         None => Ok(None),
     }
 }
 
 /// The same of an invariant that there is, said of the states' slots.
 fn slots_fault(
+    alloc: Global,
     composition: &Composition,
     states: &[NodeState],
     component: usize,
@@ -45,7 +48,10 @@ fn slots_fault(
     ensures { IfOk result (λ f. f ≡ spec.slots_fault (composed_of composition.now) (values_of states.now) component invariant) }
 {
     match states.get(component) {
-        Some(state) => state_fault(composition, state.values(), component, invariant),
+        Some(state) => {
+            let values = state_values(alloc, state)?;
+            state_fault(composition, &values, component, invariant)
+        }
         None => Ok(None),
     }
 }

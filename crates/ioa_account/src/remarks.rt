@@ -395,6 +395,7 @@ fn put_broken(
 {
     let run = run_before(alloc, told.composition, actions, broken.state)?;
     let fault = invariant_fault(
+        alloc,
         told.composition,
         &run.states,
         broken.component,
@@ -403,7 +404,7 @@ fn put_broken(
     let name = name_at(told.composition, broken.component);
     put_broken_after(alloc, text, told, broken.state, name, fault)?;
     put_invariant(alloc, text, told, broken.invariant)?;
-    put_component(text, told.composition, broken.component, &run.states)
+    put_component(alloc, text, told.composition, broken.component, &run.states)
 }
 
 /// The composition's run of the first so many actions.

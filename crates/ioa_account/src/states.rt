@@ -1,6 +1,6 @@
 //! States for people: slots as the variables that a source declares.
 
-ghost use Rattle.std.specs.Prelude.{◌≡◌, ◌++◌, List, OnOk, map};
+ghost use Rattle.std.specs.Prelude.{◌≡◌, ◌++◌, List, IfOk, OnOk, map};
 ghost use Rattle.std.specs.String.{string_bytes};
 ghost use Rattle.ioa_value.specs.Plain.{plain};
 ghost use Rattle.ioa_tree.specs.Hosts.{HostState, Hosted};
@@ -13,13 +13,15 @@ ghost use Rattle.ioa_picture.specs.Lines.{numbered};
 ghost use Rattle.ioa_account.specs.States as spec;
 
 use ioa_compose::{Composition, Member};
-use ioa_node::NodeState;
+use ioa_flat::{NodeState, state_values};
 use ioa_value::{OutOfMemory, Types, Value, push_value};
+use std::alloc::Global;
 use std::fmt::Write;
 
 /// Puts the states of the composition's components behind the text: each variable with its value on a line, and of a component that
 /// crashes and recovers last whether it is up.
 pub fn put_states(
+    alloc: Global,
     text: &mut String,
     composition: &Composition,
     states: &[NodeState],
@@ -27,11 +29,18 @@ pub fn put_states(
     ensures { OnOk result ((h : Hosted) (hs : List (HostState Env)) → Simulates h (composed_of composition.now) → AllRelated (SlotsHoldAt h.hosts) 0 hs (values_of states.now)
         → string_bytes text.new ≡ string_bytes text.old ++ spec.state_lines h.types h.hosts hs) }
 {
-    put_slots(text, composition.types(), composition.members(), states)
+    put_slots(
+        alloc,
+        text,
+        composition.types(),
+        composition.members(),
+        states,
+    )
 }
 
 /// Puts the lines of one component alone, the one of this number, behind the text; nothing where there is none.
 pub fn put_component(
+    alloc: Global,
     text: &mut String,
     composition: &Composition,
     number: usize,
@@ -41,6 +50,7 @@ pub fn put_component(
         → string_bytes text.new ≡ string_bytes text.old ++ spec.component_lines h.types h.hosts hs number) }
 {
     put_slots_at(
+        alloc,
         text,
         composition.types(),
         composition.members(),
@@ -50,20 +60,33 @@ pub fn put_component(
 }
 
 /// Whether the component of this number is down.
-pub fn is_down(composition: &Composition, number: usize, states: &[NodeState]) -> bool
-    ensures { (h : Hosted) (hs : List (HostState Env)) → Simulates h (composed_of composition.now) → AllRelated (SlotsHoldAt h.hosts) 0 hs (values_of states.now)
-        → result ≡ spec.is_down h.hosts hs number }
+pub fn is_down(
+    alloc: Global,
+    composition: &Composition,
+    number: usize,
+    states: &[NodeState],
+) -> Result<bool, OutOfMemory>
+    ensures { IfOk result (λ down. (h : Hosted) (hs : List (HostState Env)) → Simulates h (composed_of composition.now) → AllRelated (SlotsHoldAt h.hosts) 0 hs (values_of states.now)
+        → down ≡ spec.is_down h.hosts hs number) }
 {
-    is_down_at(composition.members(), number, states)
+    is_down_at(alloc, composition.members(), number, states)
 }
 
 /// The same, said of the states' slots.
-fn is_down_at(members: &[Member], number: usize, states: &[NodeState]) -> bool
-    ensures { result ≡ spec.is_down_at (map member_of members.now) (values_of states.now) number }
+fn is_down_at(
+    alloc: Global,
+    members: &[Member],
+    number: usize,
+    states: &[NodeState],
+) -> Result<bool, OutOfMemory>
+    ensures { IfOk result (λ down. down ≡ spec.is_down_at (map member_of members.now) (values_of states.now) number) }
 {
     match states.get(number) {
-        Some(state) => is_down_in_slots(members, number, state.values()),
-        None => false,
+        Some(state) => {
+            let values = state_values(alloc, state)?;
+            Ok(is_down_in_slots(members, number, &values))
+        }
+        None => Ok(false),
     }
 }
 
@@ -98,6 +121,7 @@ fn tells_down(value: &Value) -> bool
 
 /// The same, said of the states' slots.
 fn put_slots_at(
+    alloc: Global,
     text: &mut String,
     types: &Types,
     members: &[Member],
@@ -107,13 +131,17 @@ fn put_slots_at(
     ensures { OnOk result (string_bytes text.new ≡ string_bytes text.old ++ spec.slots_at types.now (map member_of members.now) (values_of states.now) number) }
 {
     match states.get(number) {
-        Some(state) => put_state(text, types, members, number, state.values()),
+        Some(state) => {
+            let values = state_values(alloc, state)?;
+            put_state(text, types, members, number, &values)
+        }
         None => Ok(()),
     }
 }
 
 /// All states, said of their slots.
 fn put_slots(
+    alloc: Global,
     text: &mut String,
     types: &Types,
     members: &[Member],
@@ -122,7 +150,8 @@ fn put_slots(
     ensures { OnOk result (string_bytes text.new ≡ string_bytes text.old ++ numbered (spec.slots_in types.now (map member_of members.now)) 0 (values_of states.now)) }
 {
     for i in 0..states.len() {
-        put_state(text, types, members, i, states[i].values())?;
+        let values = state_values(alloc, &states[i])?;
+        put_state(text, types, members, i, &values)?;
     }
     Ok(())
 }

@@ -19,12 +19,13 @@ ghost use Rattle.ioa_compile.specs.Matching.{AreTypesOf};
 use crate::entries::verified;
 use crate::space::Space;
 use crate::types::variable_types;
-use ioa_code::{Code, PartKind, Verified};
+use ioa_code::{Code, PartKind};
 use ioa_compose::{Composition, Member};
 use ioa_emit::{Scope, emit_expression};
-use ioa_node::{NodeState, enabled};
+use ioa_flat::{Decoded, NodeState, enabled};
 use ioa_tree::Expression;
 use ioa_value::{OutOfMemory, Ty};
+use ioa_words::Layout;
 use std::alloc::Global;
 use std::marker::Model;
 
@@ -32,7 +33,7 @@ use std::marker::Model;
 /// beside the composition's program, of which it is no part. A condition whose code or constants a part could not number has none.
 pub struct Asked<'a> {
     composition: &'a Composition,
-    codes: Vec<Vec<Option<Verified>>>,
+    codes: Vec<Vec<Option<Decoded>>>,
 }
 
 /// Written out, so that who drops one calls this, and does not take it apart itself.
@@ -113,17 +114,18 @@ fn component_codes(
     alloc: Global,
     composition: &Composition,
     component: usize,
-) -> Result<Vec<Option<Verified>>, OutOfMemory>
+) -> Result<Vec<Option<Decoded>>, OutOfMemory>
     requires { component < length composition.now.members }
     ensures { IfOk result (λ codes. AskAll (composed_of composition.now) component codes.items) }
 {
     let member = &composition.members()[component];
     let slots = variable_types(alloc, &member.types, &member.automaton.variables)?;
+    let layout = Layout::new(alloc, member.types.share()?)?;
     let mut codes = Vec::new(alloc);
     for number in 0..composition.invariants().len() {
         if composition.is_about(component, number) {
             let condition = &composition.invariants()[number].condition;
-            codes.push(condition_code(alloc, member, &slots, condition)?)?;
+            codes.push(condition_code(alloc, &layout, member, &slots, condition)?)?;
         } else {
             codes.push(None)?;
         }
@@ -134,10 +136,12 @@ fn component_codes(
 /// The code of a condition over a component's variables and formals, verified, unless it is too large.
 fn condition_code(
     alloc: Global,
+    layout: &Layout,
     member: &Member,
     slots: &[Ty],
     condition: &Expression,
-) -> Result<Option<Verified>, OutOfMemory>
+) -> Result<Option<Decoded>, OutOfMemory>
+    requires layout { layout.now ≡ member.now.types }
     requires fine { IsFine component_limits (member_of member.now) }
     requires table { AreTypes member.now.types }
     requires slots { AreTypesOf member.now.types (variable_fields (automaton_of member.now.automaton)) (map number slots.now) }
@@ -155,6 +159,7 @@ fn condition_code(
     emit_expression(alloc, &mut code, &scope, condition)?;
     let part = verified(
         alloc,
+        layout,
         &member.types,
         code,
         PartKind::Pre,

@@ -16,8 +16,9 @@ use crate::program::Program;
 use crate::table::Member;
 use crate::types::variable_types;
 use ioa_compose::{Composition, Member as MemberTree};
-use ioa_node::from_values;
+use ioa_flat::from_values;
 use ioa_value::OutOfMemory;
+use ioa_words::Layout;
 use std::alloc::Global;
 
 /// The program that means the composition. It refuses nothing but for want of memory.
@@ -53,10 +54,11 @@ fn compile_member(alloc: Global, member: &MemberTree) -> Result<Member, OutOfMem
     ensures { IfOk result (λ c. DoesSame (member_of member.now) (member_code c)) }
 {
     let slots = variable_types(alloc, &member.types, &member.automaton.variables)?;
+    let layout = Layout::new(alloc, member.types.share()?)?;
     Ok(Member {
         name: member.name.clone()?,
         start: from_values(alloc, &member.types, &slots, &member.starts)?,
-        entries: compile_entries(alloc, member, &slots)?,
+        entries: compile_entries(alloc, &layout, member, &slots)?,
     })
 }
 

@@ -23,19 +23,24 @@ ghost use Rattle.ioa_compile.specs.Translated.{IsEntryOf, IsTranslated};
 use crate::table::Entry;
 use crate::transition::transition_code;
 use crate::types::{parameter_types, position_types};
-use ioa_code::{Code, CodeErr, Env, PartKind, Verified, verify};
+use ioa_code::{Code, CodeErr, Env, PartKind, verify};
 use ioa_compose::Member;
+use ioa_decode::decode_code;
 use ioa_emit::Scope;
+use ioa_flat::Decoded;
 use ioa_tree::{Automaton, Entry as EntryTree, Transition};
 use ioa_value::{OutOfMemory, Position, Ty, Types};
+use ioa_words::Layout;
 use std::alloc::Global;
 
 /// The entries of a component's table, over variables of these types.
 pub(crate) fn compile_entries(
     alloc: Global,
+    layout: &Layout,
     member: &Member,
     slots: &[Ty],
 ) -> Result<Vec<Entry>, OutOfMemory>
+    requires layout { layout.now ≡ member.now.types }
     requires table { AreTypes member.now.types }
     requires fine { IsFine component_limits (member_of member.now) }
     requires positions { HoldsPositions member.now }
@@ -46,7 +51,7 @@ pub(crate) fn compile_entries(
     for k in 0..member.automaton.entries.len() {
         let entry = &member.automaton.entries[k];
         let positions = &member.positions[k];
-        entries.push(compile_entry(alloc, member, slots, entry, positions)?)?;
+        entries.push(compile_entry(alloc, layout, member, slots, entry, positions)?)?;
     }
     Ok(entries)
 }
@@ -54,11 +59,13 @@ pub(crate) fn compile_entries(
 /// An entry of a component's table: its positions, which the component holds, and the code of its transition.
 fn compile_entry(
     alloc: Global,
+    layout: &Layout,
     member: &Member,
     slots: &[Ty],
     entry: &EntryTree,
     positions: &[Position],
 ) -> Result<Entry, OutOfMemory>
+    requires layout { layout.now ≡ member.now.types }
     requires table { AreTypes member.now.types }
     requires fine { IsFine component_limits (member_of member.now) }
     requires slots { AreTypesOf member.now.types (variable_fields (automaton_of member.now.automaton)) (map number slots.now) }
@@ -79,6 +86,7 @@ fn compile_entry(
         positions: copied(alloc, positions)?,
         pre: local_part(
             alloc,
+            layout,
             types,
             code.guard,
             PartKind::Pre,
@@ -88,6 +96,7 @@ fn compile_entry(
         )?,
         propose: local_part(
             alloc,
+            layout,
             types,
             code.proposals,
             PartKind::Propose,
@@ -97,6 +106,7 @@ fn compile_entry(
         )?,
         effect: verified(
             alloc,
+            layout,
             types,
             code.effect,
             PartKind::Eff,
@@ -131,37 +141,43 @@ fn transition_of<'a>(automaton: &'a Automaton, entry: &EntryTree) -> &'a Transit
     unreachable!()
 }
 
-/// Valid code of a locally controlled entry, verified.
+/// Valid code of a locally controlled entry, verified and decoded.
 fn local_part(
     alloc: Global,
+    layout: &Layout,
     types: &Types,
     code: Option<Code>,
     kind: PartKind,
     slots: &[Ty],
     arguments: &[Ty],
     stack: &[Ty],
-) -> Result<Option<Verified>, OutOfMemory>
+) -> Result<Option<Decoded>, OutOfMemory>
+    requires layout { layout.now ≡ types.now }
     requires typed { IfSome code (λ code. OwnTypes types.now (map plain code.consts.items)) }
     requires valid { IfSome code (λ code. Valid (part types.now code kind slots.now arguments.now stack.now)) }
     ensures value { IfOk result (λ p. p ≡ option_map (λ code. part types.now code kind slots.now arguments.now stack.now) code) }
     ensures sound { IfOk result (λ p. IfSome p IsVerified) }
 {
     match code {
-        Some(code) => Ok(Some(verified(alloc, types, code, kind, slots, arguments, stack)?)),
+        Some(code) => Ok(Some(verified(
+            alloc, layout, types, code, kind, slots, arguments, stack,
+        )?)),
         None => Ok(None),
     }
 }
 
-/// Valid code, verified.
+/// Valid code, verified and decoded.
 pub(crate) fn verified(
     alloc: Global,
+    layout: &Layout,
     types: &Types,
     code: Code,
     kind: PartKind,
     slots: &[Ty],
     arguments: &[Ty],
     stack: &[Ty],
-) -> Result<Verified, OutOfMemory>
+) -> Result<Decoded, OutOfMemory>
+    requires layout { layout.now ≡ types.now }
     requires typed { OwnTypes types.now (map plain code.consts.items) }
     requires valid { Valid (part types.now code kind slots.now arguments.now stack.now) }
     ensures value { IfOk result (λ v. v ≡ part types.now code kind slots.now arguments.now stack.now) }
@@ -175,7 +191,7 @@ pub(crate) fn verified(
         result: stack,
     };
     match verify(alloc, code, &env) {
-        Ok(part) => Ok(part),
+        Ok(part) => decode_code(alloc, layout, part),
         Err(CodeErr::OutOfMemory) => Err(OutOfMemory),
         Err(CodeErr::Bad { .. }) => unreachable!(),
     }

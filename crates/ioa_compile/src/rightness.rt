@@ -23,6 +23,7 @@ use crate::tables::Tables;
 use crate::types::{parameter_types, position_types};
 use ioa_code::{PartKind, Verified};
 use ioa_compose::COMPONENT_LIMITS;
+use ioa_flat::Decoded;
 use ioa_tree::Kind;
 use ioa_value::{LIMITS, OutOfMemory, Position, Ty, Types, Value, has_type, is_name};
 use std::alloc::Global;
@@ -154,7 +155,7 @@ fn is_entry(alloc: Global, member: &Member, entry: &Entry) -> Result<bool, OutOf
     if !is_name(entry.name.as_bytes())
         || entry.positions.len() > LIMITS.parameters
         || !are_positions(member.start.declared(), &entry.positions)
-        || entry.effect.consts().len() > MOST_PLACES
+        || entry.effect.code().consts().len() > MOST_PLACES
         || !has_its_consts(entry)
     {
         return Ok(false);
@@ -186,7 +187,7 @@ fn are_parts(alloc: Global, member: &Member, entry: &Entry) -> Result<bool, OutO
             &[],
             &parameters,
             &entry.propose,
-        ) && is_part(member, PartKind::Eff, &values, &[], &entry.effect),
+        ) && is_part(member, PartKind::Eff, &values, &[], entry.effect.code()),
     )
 }
 
@@ -216,16 +217,16 @@ fn is_position(types: &Types, position: &Position) -> bool
 fn has_its_consts(entry: &Entry) -> bool
     ensures { IsTrue result ↔ (IfSome entry.now.pre (λ part. part.code.consts ≡ entry.now.effect.code.consts) × IfSome entry.now.propose (λ part. part.code.consts ≡ entry.now.effect.code.consts)) }
 {
-    let consts = entry.effect.consts();
+    let consts = entry.effect.code().consts();
     carries(&entry.pre, consts) && carries(&entry.propose, consts)
 }
 
 /// Whether the part, if there is one, carries these constants.
-fn carries(part: &Option<Verified>, consts: &[Value]) -> bool
+fn carries(part: &Option<Decoded>, consts: &[Value]) -> bool
     ensures { IsTrue result ↔ IfSome part.now (λ part. part.code.consts ≡ map plain consts.now) }
 {
     match part {
-        Some(part) => are_alike(part.consts(), consts),
+        Some(part) => are_alike(part.code().consts(), consts),
         None => true,
     }
 }
@@ -237,13 +238,15 @@ fn is_local_part(
     kind: PartKind,
     values: &[Ty],
     end: &[Ty],
-    part: &Option<Verified>,
+    part: &Option<Decoded>,
 ) -> bool
     ensures { IsTrue result ↔ HasLocal (IsPart (member_code member.now) kind (map number values.now) (map number end.now)) of part.now }
 {
     match (of, part) {
         (Kind::Input, None) => true,
-        (Kind::Output | Kind::Internal, Some(part)) => is_part(member, kind, values, end, part),
+        (Kind::Output | Kind::Internal, Some(part)) => {
+            is_part(member, kind, values, end, part.code())
+        }
         (Kind::Input, Some(_)) | (Kind::Output | Kind::Internal, None) => false,
     }
 }

@@ -5,8 +5,8 @@ ghost use Rattle.std.specs.Option.{option_map};
 
 use crate::program::Program;
 use crate::table::{Entry, Member};
-use ioa_code::{Instr, Verified};
-use ioa_node::NodeState;
+use ioa_code::Instr;
+use ioa_flat::{Decoded, NodeState};
 use ioa_value::{Declared, Field, Form, Op, Position, Ty, Types, Value, same};
 
 impl Program {
@@ -248,7 +248,7 @@ impl Alike for Instr {
 }
 
 /// Of code its instructions alone tell: its types are its component's, and its constants its entry's.
-impl Alike for Verified {
+impl Alike for Decoded {
     ghost use Rattle.std.specs.Prelude.{List};
     ghost use Rattle.ioa_code.specs.declared.instr.Instr.{Instr};
     ghost use Rattle.ioa_compile.specs.Outlines.{instrs_of};
@@ -257,8 +257,8 @@ impl Alike for Verified {
 
     ghost part = { instrs_of };
 
-    fn is_like(&self, other: &Verified) -> bool {
-        are_alike(self.instrs(), other.instrs())
+    fn is_like(&self, other: &Decoded) -> bool {
+        are_alike(self.code().instrs(), other.code().instrs())
     }
 }
 
@@ -290,7 +290,7 @@ impl Alike for Entry {
             && are_both(&self.pre, &other.pre)
             && are_both(&self.propose, &other.propose)
             && self.effect.is_like(&other.effect)
-            && are_alike(self.effect.consts(), other.effect.consts())
+            && are_alike(self.effect.code().consts(), other.effect.code().consts())
     }
 }
 

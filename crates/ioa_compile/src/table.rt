@@ -1,7 +1,6 @@
 //! The tables of a program.
 
-use ioa_code::Verified;
-use ioa_node::NodeState;
+use ioa_flat::{Decoded, NodeState};
 use ioa_tree::Kind;
 use ioa_value::Position;
 
@@ -12,10 +11,10 @@ pub struct Entry {
     /// What an action may have in its places.
     pub positions: Vec<Position>,
     /// The precondition of an output or internal entry.
-    pub pre: Option<Verified>,
+    pub pre: Option<Decoded>,
     /// What gives values for the parameters of an output or internal entry, to try next.
-    pub propose: Option<Verified>,
-    pub effect: Verified,
+    pub propose: Option<Decoded>,
+    pub effect: Decoded,
 }
 
 /// Written out, so that who drops one calls this, and does not take it apart itself.

@@ -51,35 +51,33 @@ module _ (e : EntryEffect) (a : Act) (ns : List Node) where
   pub no_state : slice_get ns e.number ≡ None → taken_at e a (values_of ns) ≡ []
   no_state at = ap (λ o. option_map_or (taken_in_slots e a) o []) (slice_get-map (λ (n : Node). n.values) ns e.number ∙ ap (option_map (λ (n : Node). n.values)) at)
 
-  in_state : (n : Node) → slice_get ns e.number ≡ Some n → taken_at e a (values_of ns) ≡ taken_in_slots e a n.values
+  pub in_state : (n : Node) → slice_get ns e.number ≡ Some n → taken_at e a (values_of ns) ≡ taken_in_slots e a n.values
   in_state n at = ap (λ o. option_map_or (taken_in_slots e a) o []) (image_at (λ (n : Node). n.values) ns e.number n at)
 
-  by_tests : (n : Node) (b c : Bool) → slice_get ns e.number ≡ Some n → is_in e.member.start.table a e.code ≡ b → is_up e.instance n.values ≡ c
-      → taken_at e a (values_of ns) ≡ (if b && c then marks_in e.instance.types 0 e.statements (environment_in e a n.values) else [])
-  by_tests n b c at has up =
-      in_state n at
-      ∙ ap₂ (λ (d : Bool) (f : Bool). if d && f then marks_in e.instance.types 0 e.statements (environment_in e a n.values) else []) has up
+module _ (e : EntryEffect) (a : Act) (slots : List Val) where
+  by_tests : (b c : Bool) → is_in e.member.start.table a e.code ≡ b → is_up e.instance slots ≡ c
+      → taken_in_slots e a slots ≡ (if b && c then marks_in e.instance.types 0 e.statements (environment_in e a slots) else [])
+  by_tests b c has up = ap₂ (λ (d : Bool) (f : Bool). if d && f then marks_in e.instance.types 0 e.statements (environment_in e a slots) else []) has up
 
-  pub takes : (n : Node) → slice_get ns e.number ≡ Some n → is_in e.member.start.table a e.code ≡ true → is_up e.instance n.values ≡ true
-      → taken_at e a (values_of ns) ≡ marks_in e.instance.types 0 e.statements (environment_in e a n.values)
-  takes n at has up = by_tests n true true at has up
+  pub takes : is_in e.member.start.table a e.code ≡ true → is_up e.instance slots ≡ true → taken_in_slots e a slots ≡ marks_in e.instance.types 0 e.statements (environment_in e a slots)
+  takes has up = by_tests true true has up
 
-  pub not_its : (n : Node) → slice_get ns e.number ≡ Some n → is_in e.member.start.table a e.code ≡ false → taken_at e a (values_of ns) ≡ []
-  not_its n at has = by_tests n false (is_up e.instance n.values) at has refl
+  pub not_its : is_in e.member.start.table a e.code ≡ false → taken_in_slots e a slots ≡ []
+  not_its has = by_tests false (is_up e.instance slots) has refl
 
-  pub is_down : (n : Node) → slice_get ns e.number ≡ Some n → is_in e.member.start.table a e.code ≡ true → is_up e.instance n.values ≡ false → taken_at e a (values_of ns) ≡ []
-  is_down n at has up = by_tests n true false at has up
+  pub is_down : is_in e.member.start.table a e.code ≡ true → is_up e.instance slots ≡ false → taken_in_slots e a slots ≡ []
+  is_down has up = by_tests true false has up
 
 -- ---- as the program has it
 
-module _ (x : Effect) (n : Node) (values : List Value) (shown : map plain values ≡ n.values) where
-  pub up_shown : (b : Bool) → b ≡ is_up_by (slice_get (map plain values) (length x.automaton.now.variables.items)) → is_up (effect_of x).instance n.values ≡ b
-  up_shown b is = ap₂ (λ (vs : List Val) (k : ℕ). is_up_by (slice_get vs k)) (sym shown) (length-map x.automaton.now.variables.items variable_of) ∙ sym is
+module _ (x : Effect) (slots : List Value) where
+  pub up_shown : (b : Bool) → b ≡ is_up_by (slice_get (map plain slots) (length x.automaton.now.variables.items)) → is_up (effect_of x).instance (map plain slots) ≡ b
+  up_shown b is = ap (λ (k : ℕ). is_up_by (slice_get (map plain slots) k)) (length-map x.automaton.now.variables.items variable_of) ∙ sym is
 
   pub scope_shown : (a : Action) (given : List Value) (env : Env) → given ≡ a.vals.items
-      → env ≡ environment (effect_of x).instance (effect_of x).entry (map plain given) (state_of (effect_of x).instance.automaton (map plain values)) → environment_in (effect_of x) (act_of a) n.values ≡ env
+      → env ≡ environment (effect_of x).instance (effect_of x).entry (map plain given) (state_of (effect_of x).instance.automaton (map plain slots)) → environment_in (effect_of x) (act_of a) (map plain slots) ≡ env
   scope_shown a given env vals is =
-      sym (is ∙ ap₂ (λ (us : List Value) (vs : List Val). environment (effect_of x).instance (effect_of x).entry (map plain us) (state_of (effect_of x).instance.automaton vs)) vals shown)
+      sym (is ∙ ap (λ (us : List Value). environment (effect_of x).instance (effect_of x).entry (map plain us) (state_of (effect_of x).instance.automaton (map plain slots))) vals)
 
 -- counts that are written back are all that there are
 pub written_back : (n : ℕ) (new old : List ℕ) → n ≡ length old → length new ≡ length old → take n (new ++ drop (length new) old) ≡ new

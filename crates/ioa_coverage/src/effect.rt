@@ -8,7 +8,7 @@ use crate::coverage::has;
 use crate::effects::follow_all;
 use crate::environment::environment;
 use ioa_compile::{Entry, Member};
-use ioa_node::NodeState;
+use ioa_flat::{NodeState, state_values};
 use ioa_tree::{Automaton, Entry as Declared, Statement};
 use ioa_value::{Action, OutOfMemory, Types, Value};
 use std::alloc::Global;
@@ -35,12 +35,15 @@ pub(crate) struct Effect<'a> {
 }
 
 impl Effect<'_> {
-    ghost use Rattle.std.specs.Prelude.{◌≡◌, IfOk, OnOk};
+    ghost use Rattle.std.specs.Prelude.{◌≡◌, OnOk, map, true};
     ghost use Rattle.ioa_value.specs.Actions.{act_of};
+    ghost use Rattle.ioa_value.specs.Plain.{plain};
+    ghost use Rattle.ioa_value.specs.Table.{AreTypes};
     ghost use Rattle.ioa_compile.specs.Programs.{Prog};
+    ghost use Rattle.ioa_compile.specs.Tables.{is_in};
     ghost use Rattle.ioa_system.specs.Systems.{slot_types, types_of, values_of};
-    ghost use Rattle.ioa_coverage.specs.Effects.{HasPlaces, MayTake, counts_of, effect_of, taken_at};
-    ghost use Rattle.ioa_coverage.specs.Following.{with_marks};
+    ghost use Rattle.ioa_coverage.specs.Effects.{HasPlaces, MayTake, counts_of, effect_of, environment_in, taken_at, taken_in_slots};
+    ghost use Rattle.ioa_coverage.specs.Following.{MayFollowAll, with_marks};
 
     /// Counts what the effect takes by an action, from these states of all components. It asks that the states are of the components' types, and that the
     /// effect keeps the rules of sources.
@@ -59,7 +62,30 @@ impl Effect<'_> {
         let Some(state) = states.get(self.number) else {
             return Ok(());
         };
-        if has(self.member, self.entry, action) && is_up(self.automaton, state.values()) {
+        if !has(self.member, self.entry, action) {
+            return Ok(());
+        }
+        let _types = state.types();
+        let slots = state_values(alloc, state)?;
+        self.take_in(alloc, action, &slots)
+    }
+
+    /// The same by an action that the entry has, in these values of its component's slots.
+    fn take_in(
+        &mut self,
+        alloc: Global,
+        action: &Action,
+        slots: &[Value],
+    ) -> Result<(), OutOfMemory>
+        requires has { is_in (effect_of self.old).member.start.table (act_of action.now) (effect_of self.old).code ≡ true }
+        requires types { AreTypes (effect_of self.old).instance.types }
+        requires may { MayFollowAll (effect_of self.old).instance.types (environment_in (effect_of self.old) (act_of action.now) (map plain slots.now)) (effect_of self.old).statements }
+        requires places { HasPlaces self.old }
+        ensures effect { effect_of self.new ≡ effect_of self.old }
+        ensures places { OnOk result (HasPlaces self.new) }
+        ensures counts { OnOk result (counts_of self.new ≡ with_marks (counts_of self.old) (taken_in_slots (effect_of self.old) (act_of action.now) (map plain slots.now))) }
+    {
+        if is_up(self.automaton, slots) {
             let mut scope = environment(
                 alloc,
                 self.types,
@@ -67,7 +93,7 @@ impl Effect<'_> {
                 self.arguments,
                 self.declared,
                 &action.vals,
-                state.values(),
+                slots,
             )?;
             // (no effect faults here: the step was performed)
             let _ = follow_all(

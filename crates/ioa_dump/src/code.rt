@@ -8,6 +8,7 @@ ghost use Rattle.ioa_dump.specs.Dumps as spec;
 
 use crate::values::{brief_value, type_in, type_name};
 use ioa_code::{Instr, Verified};
+use ioa_flat::Decoded;
 use ioa_value::{Op, OutOfMemory, Types, Value};
 use std::alloc::Global;
 use std::fmt::Write;
@@ -18,12 +19,12 @@ pub fn put_local(
     text: &mut String,
     types: &Types,
     heading: &str,
-    part: &Option<Verified>,
+    part: &Option<Decoded>,
 ) -> Result<(), OutOfMemory>
     ensures { OnOk result (string_bytes text.new ≡ string_bytes text.old ++ spec.local_lines types.now heading.now part.now) }
 {
     match part {
-        Some(part) => put_part(alloc, text, types, heading, part),
+        Some(part) => put_part(alloc, text, types, heading, part.code()),
         None => Ok(()),
     }
 }

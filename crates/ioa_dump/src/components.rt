@@ -11,7 +11,7 @@ ghost use Rattle.ioa_dump.specs.Dumps as spec;
 use crate::code::{put_local, put_part};
 use crate::values::{put_values, type_name, typed_value};
 use ioa_compile::{Entry, Member};
-use ioa_node::state_values;
+use ioa_flat::state_values;
 use ioa_tree::Kind;
 use ioa_value::{OutOfMemory, Position, Types};
 use std::alloc::Global;
@@ -82,10 +82,11 @@ fn put_entry(
     let name = entry.name.as_str();
     writeln!(text, "  {kind} {name}")?;
     put_positions(alloc, text, types, &entry.positions)?;
-    put_values(alloc, text, types, "    constant", entry.effect.consts())?;
+    let effect = entry.effect.code();
+    put_values(alloc, text, types, "    constant", effect.consts())?;
     put_local(alloc, text, types, "precondition", &entry.pre)?;
     put_local(alloc, text, types, "proposals", &entry.propose)?;
-    put_part(alloc, text, types, "effect", &entry.effect)
+    put_part(alloc, text, types, "effect", effect)
 }
 
 fn kind_word(kind: Kind) -> &'static str

@@ -12,7 +12,7 @@ ghost use Rattle.ioa_enabled.specs.Ways.{Values, total};
 
 use crate::samples::sampled;
 use ioa_compile::Entry;
-use ioa_node::{NodeState, Workspace};
+use ioa_flat::{NodeState, Workspace};
 use ioa_value::{OutOfMemory, Value, same};
 use std::alloc::Global;
 

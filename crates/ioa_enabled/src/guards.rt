@@ -10,15 +10,13 @@ ghost use Rattle.ioa_system.specs.Systems.{slots_of};
 ghost use Rattle.ioa_enabled.specs.Ways as spec;
 
 use ioa_compile::{Entry, Member};
-use ioa_node::{NodeState, Workspace, enabled_with};
+use ioa_flat::{NodeState, Workspace, enabled_with};
 use ioa_value::{Action, OutOfMemory, all_take};
-use std::alloc::Global;
 
 /// Whether the action is enabled in this state of the component.
 ///
 /// It asks that the state is of the component's types.
 pub(crate) fn is_enabled(
-    alloc: Global,
     workspace: &mut Workspace,
     member: &Member,
     action: &Action,
@@ -29,16 +27,13 @@ pub(crate) fn is_enabled(
     ensures { IfOk result (λ r. r ≡ spec.is_enabled (table_component (member_code member.now)) state.now.values (act_of action.now)) }
 {
     match entry_of(member, action) {
-        Some(entry) if entry.kind.is_local() => {
-            allows(alloc, workspace, member, entry, action, state)
-        }
+        Some(entry) if entry.kind.is_local() => { allows(workspace, member, entry, action, state) }
         _ => Ok(false),
     }
 }
 
 /// Whether the entry's precondition is true. An entry without one allows its action.
 fn allows(
-    alloc: Global,
     workspace: &mut Workspace,
     member: &Member,
     entry: &Entry,
@@ -51,7 +46,7 @@ fn allows(
     ensures { IfOk result (λ r. r ≡ spec.is_yes ((table_component (member_code member.now)).guard (act_of action.now) state.now.values)) }
 {
     match &entry.pre {
-        Some(code) => match enabled_with(alloc, workspace, code, state, &action.vals)? {
+        Some(code) => match enabled_with(workspace, code, state, &action.vals)? {
             Ok(holds) => Ok(holds),
             Err(_) => Ok(false),
         },

@@ -12,7 +12,7 @@ use crate::columns::columns;
 use crate::combinations::combination;
 use crate::guards::is_enabled;
 use ioa_compile::{Entry, Member};
-use ioa_node::{NodeState, Workspace};
+use ioa_flat::{NodeState, Workspace};
 use ioa_value::{Action, OutOfMemory, Value};
 use std::alloc::Global;
 
@@ -85,7 +85,7 @@ fn enabled_among(
             name: String::from_str(alloc, name)?,
             vals,
         };
-        if is_enabled(alloc, workspace, member, &action, state)? {
+        if is_enabled(workspace, member, &action, state)? {
             enabled.push(action)?;
         }
     }

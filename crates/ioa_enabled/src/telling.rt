@@ -31,7 +31,7 @@ use crate::placing::placed;
 use crate::signatures::put_inputs;
 use ioa_compile::{Entry, Member, Program};
 use ioa_compose::Composition;
-use ioa_node::{NodeState, Workspace};
+use ioa_flat::{NodeState, Workspace, state_values};
 use ioa_value::{Action, OutOfMemory, Types, push_action};
 use std::alloc::Global;
 use std::fmt::Write;
@@ -126,7 +126,8 @@ fn put_state(
     ensures { OnOk result ((w : ℕ → List Values) → AreOfMember (member_code code.now) state.now.values → HaveWays (member_code code.now) state.now.values w
         → string_bytes text.new ≡ string_bytes text.old ++ spec.member_lines part types.now (member_of member.now) (member_code code.now) state.now.values w) }
 {
-    match placed(alloc, code, state.values())? {
+    let values = state_values(alloc, state)?;
+    match placed(alloc, code, &values)? {
         Some(state) => put_member(alloc, workspace, part, text, types, member, code, &state),
         None => Ok(()),
     }

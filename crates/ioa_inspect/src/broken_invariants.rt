@@ -23,7 +23,7 @@ ghost use Rattle.ioa_inspect.specs.Breaking.{AreStates, AreTyped, IsInspectionOf
 use ioa_compile::{Asked, Program, compile};
 use ioa_compose::Composition;
 use ioa_device::LogErr;
-use ioa_node::NodeState;
+use ioa_flat::{NodeState, state_values};
 use ioa_replay::TracedJudge;
 use ioa_system::{End, Log, Run};
 use ioa_value::{OutOfMemory, Value};
@@ -95,17 +95,25 @@ fn inspect_table(
     let mut judge = TracedJudge::start(alloc, program)?;
     let mut broken = None;
     for count in 0..log.entries.len() {
-        broken = or_broken_in(asked, broken, count, judge.states())?;
+        broken = or_broken_in(alloc, asked, broken, count, judge.states())?;
         let entry = &log.entries[count];
         judge.follow(entry)?;
     }
     let run = judge.finish(log.end)?;
-    let broken = or_broken_at_end(asked, broken, log.entries.len(), run.end, &run.states)?;
+    let broken = or_broken_at_end(
+        alloc,
+        asked,
+        broken,
+        log.entries.len(),
+        run.end,
+        &run.states,
+    )?;
     Ok(Inspection { run, broken })
 }
 
 /// The invariant that was found before or, without one, the first that is broken in these states, after so many actions.
 fn or_broken_in(
+    alloc: Global,
     asked: &Asked<'_>,
     before: Option<Broken>,
     count: usize,
@@ -118,12 +126,13 @@ fn or_broken_in(
 {
     match before {
         Some(_) => Ok(before),
-        None => broken_in(asked, count, states),
+        None => broken_in(alloc, asked, count, states),
     }
 }
 
 /// The same in the states in which a run over so many actions ends. Where the last one faults, it changes nothing.
 pub(crate) fn or_broken_at_end(
+    alloc: Global,
     asked: &Asked<'_>,
     before: Option<Broken>,
     count: usize,
@@ -136,13 +145,14 @@ pub(crate) fn or_broken_at_end(
         (broken_at_end (composed_of asked.now) count (ending_of end) (states_in (composed_of asked.now).members 0 (values_of states.now)))) }
 {
     match end {
-        End::Done(_) => or_broken_in(asked, before, count, states),
+        End::Done(_) => or_broken_in(alloc, asked, before, count, states),
         End::NotAnAction(_) | End::NotEnabled(_) | End::Fault(_, _, _) => Ok(before),
     }
 }
 
 /// The first invariant that is broken in these states, after so many actions.
 fn broken_in(
+    alloc: Global,
     asked: &Asked<'_>,
     count: usize,
     states: &[NodeState],
@@ -153,7 +163,7 @@ fn broken_in(
         ≡ spec.broken_at (composed_of asked.now) count (states_in (composed_of asked.now).members 0 (values_of states.now))) }
 {
     for component in 0..states.len() {
-        let first = broken_by(asked, component, &states[component])?;
+        let first = broken_by(alloc, asked, component, &states[component])?;
         if let Some(invariant) = first {
             return Ok(Some(Broken {
                 state: count,
@@ -167,6 +177,7 @@ fn broken_in(
 
 /// The number of the first invariant that the component of this number breaks in this state.
 fn broken_by(
+    alloc: Global,
     asked: &Asked<'_>,
     component: usize,
     state: &NodeState,
@@ -177,7 +188,7 @@ fn broken_by(
         → k ≡ spec.broken_by 0 (composed_of asked.now).invariants m.instance (state_of m.instance.automaton state.now.values)) }
 {
     for number in 0..asked.composition().invariants().len() {
-        let broken = breaks(asked, component, number, state)?;
+        let broken = breaks(alloc, asked, component, number, state)?;
         if broken {
             return Ok(Some(number));
         }
@@ -187,6 +198,7 @@ fn broken_by(
 
 /// Whether the component of this number breaks the invariant of this number in this state.
 fn breaks(
+    alloc: Global,
     asked: &Asked<'_>,
     component: usize,
     invariant: usize,
@@ -204,7 +216,10 @@ fn breaks(
     }
     let holds = match asked.holds(component, invariant, state)? {
         Some(holds) => holds,
-        None => evaluated(composition, component, invariant, state.values())?,
+        None => {
+            let values = state_values(alloc, state)?;
+            evaluated(composition, component, invariant, &values)?
+        }
     };
     Ok(!holds)
 }

@@ -15,6 +15,7 @@ use std::alloc::Global;
 ///
 /// Whatever their numbers say, no more memory is taken than a fixed multiple of the bytes that are there for each level to which types are
 /// declared over one another (at most 1,024): of a value the bytes tell only what is innermost, and it takes memory for each type around that.
+/// Besides, each component's start state takes all the words of its variables' types.
 ///
 /// # Errors
 /// - `Magic`, exactly where the first four bytes are not all there, or are others.

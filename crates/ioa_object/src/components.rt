@@ -18,9 +18,10 @@ use ioa_bytes::{Cursor, ObjErr, value, values};
 use ioa_code::{Env, PartKind};
 use ioa_compile::{Entry, MOST_PLACES, Member, is_named, parameter_types, position_types};
 use ioa_compose::COMPONENT_LIMITS;
-use ioa_node::from_values;
+use ioa_flat::from_values;
 use ioa_tree::Kind;
 use ioa_value::{LIMITS, OutOfMemory, Position, Ty, Types, Value};
+use ioa_words::Layout;
 use std::alloc::Global;
 
 /// The components of a program over these types, in whose code loops may stand or not.
@@ -34,8 +35,9 @@ pub(crate) fn components(
 {
     let count = cursor.count(1, LIMITS.components)?;
     let mut found = Vec::new(cursor.alloc());
+    let layout = Layout::new(cursor.alloc(), types.share()?)?;
     for _ in 0..count {
-        found.push(component(cursor, loops, types, &found)?)?;
+        found.push(component(cursor, loops, &layout, types, &found)?)?;
     }
     Ok(found)
 }
@@ -45,10 +47,12 @@ pub(crate) fn components(
 fn component(
     cursor: &mut Cursor<'_>,
     loops: bool,
+    layout: &Layout,
     types: &Types,
     before: &[Member],
 ) -> Result<Member, ObjErr>
-    requires { AreTypes types.now }
+    requires layout { layout.now ≡ types.now }
+    requires types { AreTypes types.now }
     ensures { ReadsItem member_code (spec.component_at loops types.now (map member_code before.now) cursor.old) result cursor.new }
 {
     let alloc = cursor.alloc();
@@ -58,7 +62,7 @@ fn component(
     }
     let starts = values(cursor, types, COMPONENT_LIMITS.variables)?;
     let slots = types_of(alloc, &starts)?;
-    let entries = entries(cursor, loops, types, &slots)?;
+    let entries = entries(cursor, loops, layout, types, &slots)?;
     Ok(Member {
         name: text(alloc, name.text)?,
         start: from_values(alloc, types, &slots, &starts)?,
@@ -89,16 +93,18 @@ fn types_of(alloc: Global, values: &[Value]) -> Result<Vec<Ty>, OutOfMemory>
 fn entries(
     cursor: &mut Cursor<'_>,
     loops: bool,
+    layout: &Layout,
     types: &Types,
     slots: &[Ty],
 ) -> Result<Vec<Entry>, ObjErr>
-    requires { AreTypes types.now }
+    requires layout { layout.now ≡ types.now }
+    requires types { AreTypes types.now }
     ensures { ReadsItem (λ v. map entry_code v.items) (list_at 1 component_limits.entries (spec.entry_at loops types.now (map number slots.now)) cursor.old) result cursor.new }
 {
     let count = cursor.count(1, COMPONENT_LIMITS.entries)?;
     let mut found = Vec::new(cursor.alloc());
     for _ in 0..count {
-        found.push(entry(cursor, loops, types, slots, &found)?)?;
+        found.push(entry(cursor, loops, layout, types, slots, &found)?)?;
     }
     Ok(found)
 }
@@ -128,15 +134,17 @@ impl Drop for Front {
 fn entry(
     cursor: &mut Cursor<'_>,
     loops: bool,
+    layout: &Layout,
     types: &Types,
     slots: &[Ty],
     before: &[Entry],
 ) -> Result<Entry, ObjErr>
-    requires { AreTypes types.now }
+    requires layout { layout.now ≡ types.now }
+    requires types { AreTypes types.now }
     ensures { ReadsItem entry_code (spec.entry_at loops types.now (map number slots.now) (map entry_code before.now) cursor.old) result cursor.new }
 {
     let front = front_of(cursor, types, before)?;
-    front.coded(cursor, loops, types, slots)
+    front.coded(cursor, loops, layout, types, slots)
 }
 
 /// What the entry is that comes after these, before its code.
@@ -208,10 +216,12 @@ impl Front {
         self,
         cursor: &mut Cursor<'_>,
         loops: bool,
+        layout: &Layout,
         types: &Types,
         slots: &[Ty],
     ) -> Result<Entry, ObjErr>
-        requires { OwnTypes types.now (map plain self.consts.items) }
+        requires layout { layout.now ≡ types.now }
+        requires typed { OwnTypes types.now (map plain self.consts.items) }
         ensures { ReadsItem entry_code (spec.coded_at loops types.now (map number slots.now) (opening self) cursor.old) result cursor.new }
     {
         let alloc = cursor.alloc();
@@ -224,7 +234,7 @@ impl Front {
             arguments: &arguments,
             result: &[Ty::BOOL],
         };
-        let pre = local_part(cursor, loops, self.kind, &self.consts, &env)?;
+        let pre = local_part(cursor, loops, self.kind, layout, &self.consts, &env)?;
         let env = Env {
             types,
             kind: PartKind::Propose,
@@ -232,7 +242,7 @@ impl Front {
             arguments: &[],
             result: &parameters,
         };
-        let propose = local_part(cursor, loops, self.kind, &self.consts, &env)?;
+        let propose = local_part(cursor, loops, self.kind, layout, &self.consts, &env)?;
         let env = Env {
             types,
             kind: PartKind::Eff,
@@ -240,7 +250,7 @@ impl Front {
             arguments: &arguments,
             result: &[],
         };
-        let effect = part(cursor, loops, &self.consts, &env)?;
+        let effect = part(cursor, loops, layout, &self.consts, &env)?;
         let Front {
             kind,
             name,

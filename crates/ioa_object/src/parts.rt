@@ -8,9 +8,12 @@ ghost use Rattle.ioa_bytes.specs.Items.{ReadsItem};
 
 use crate::instructions::instruction;
 use ioa_bytes::{Cursor, ObjErr};
-use ioa_code::{Code, CodeErr, Env, Instr, Verified, verify};
+use ioa_code::{Code, CodeErr, Env, Instr, verify};
+use ioa_decode::decode_code;
+use ioa_flat::Decoded;
 use ioa_tree::Kind;
 use ioa_value::{Value, copies};
+use ioa_words::Layout;
 
 /// The part of an entry that an input has not.
 #[tactic(auto, unfolding(crate::specs::Reading::local_at))]
@@ -18,27 +21,31 @@ pub(crate) fn local_part(
     cursor: &mut Cursor<'_>,
     loops: bool,
     kind: Kind,
+    layout: &Layout,
     consts: &[Value],
     env: &Env<'_>,
-) -> Result<Option<Verified>, ObjErr>
-    requires { OwnTypes env.now.types.now (map plain consts.now) }
+) -> Result<Option<Decoded>, ObjErr>
+    requires layout { layout.now ≡ env.now.types.now }
+    requires typed { OwnTypes env.now.types.now (map plain consts.now) }
     ensures { ReadsItem (λ part. part) (spec.local_at kind (spec.part_at loops env.now.types.now (map number env.now.slots.now) (map plain consts.now) env.now.kind (map number env.now.arguments.now) (map number env.now.result.now)) cursor.old) result cursor.new }
 {
     match kind {
         Kind::Input => Ok(None),
-        Kind::Output | Kind::Internal => Ok(Some(part(cursor, loops, consts, env)?)),
+        Kind::Output | Kind::Internal => Ok(Some(part(cursor, loops, layout, consts, env)?)),
     }
 }
 
-/// A part of code over these constants, in which loops may stand or not, verified.
+/// A part of code over these constants, in which loops may stand or not, verified and decoded.
 #[tactic(auto, unfolding(crate::specs::Reading::part_at))]
 pub(crate) fn part(
     cursor: &mut Cursor<'_>,
     loops: bool,
+    layout: &Layout,
     consts: &[Value],
     env: &Env<'_>,
-) -> Result<Verified, ObjErr>
-    requires { OwnTypes env.now.types.now (map plain consts.now) }
+) -> Result<Decoded, ObjErr>
+    requires layout { layout.now ≡ env.now.types.now }
+    requires typed { OwnTypes env.now.types.now (map plain consts.now) }
     ensures { ReadsItem (λ v. v) (spec.part_at loops env.now.types.now (map number env.now.slots.now) (map plain consts.now) env.now.kind (map number env.now.arguments.now) (map number env.now.result.now) cursor.old) result cursor.new }
 {
     let alloc = cursor.alloc();
@@ -49,8 +56,9 @@ pub(crate) fn part(
     };
     match verify(alloc, code, env) {
         Ok(verified) => {
+            let decoded = decode_code(alloc, layout, verified)?;
             cursor.count_part();
-            Ok(verified)
+            Ok(decoded)
         }
         Err(CodeErr::Bad { at, .. }) => Err(ObjErr::BadCode(cursor.parts(), at)),
         Err(CodeErr::OutOfMemory) => Err(ObjErr::OutOfMemory),

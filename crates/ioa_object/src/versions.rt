@@ -9,6 +9,7 @@ ghost use Rattle.ioa_object.specs.Versions as spec;
 
 use ioa_code::{Instr, Verified};
 use ioa_compile::{Entry, Member};
+use ioa_flat::Decoded;
 
 /// The byte of the version that has the instructions of loops, or of the one that has not.
 pub(crate) fn version_byte(loops: bool) -> u8
@@ -61,14 +62,14 @@ fn entries_loop(entries: &[Entry]) -> bool
 fn entry_loops(entry: &Entry) -> bool
     ensures { result ≡ spec.entry_loops (entry_code entry.now) }
 {
-    local_loops(&entry.pre) || local_loops(&entry.propose) || part_loops(&entry.effect)
+    local_loops(&entry.pre) || local_loops(&entry.propose) || part_loops(entry.effect.code())
 }
 
-fn local_loops(part: &Option<Verified>) -> bool
+fn local_loops(part: &Option<Decoded>) -> bool
     ensures { result ≡ spec.local_loops part.now }
 {
     match part {
-        Some(part) => part_loops(part),
+        Some(part) => part_loops(part.code()),
         None => false,
     }
 }

@@ -18,7 +18,7 @@ use crate::mark::MARK;
 use crate::versions::{have_loops, version_byte};
 use ioa_code::{Instr, Verified};
 use ioa_compile::{Entry, Member, Program};
-use ioa_node::state_values;
+use ioa_flat::{Decoded, state_values};
 use ioa_tree::Kind;
 use ioa_value::{Declared, Field, Form, Op, OutOfMemory, Position, Ty, Types, Value};
 use std::alloc::Global;
@@ -223,10 +223,10 @@ fn put_entry(out: &mut Vec<u8>, entry: &Entry) -> Result<(), OutOfMemory>
     out.push(kind_byte(entry.kind))?;
     put_text(out, entry.name.as_str())?;
     put_positions(out, &entry.positions)?;
-    put_values(out, entry.effect.consts())?;
+    put_values(out, entry.effect.code().consts())?;
     put_local(out, &entry.pre)?;
     put_local(out, &entry.propose)?;
-    put_part(out, &entry.effect)
+    put_part(out, entry.effect.code())
 }
 
 fn kind_byte(kind: Kind) -> u8
@@ -270,12 +270,12 @@ fn put_position(out: &mut Vec<u8>, position: &Position) -> Result<(), OutOfMemor
 }
 
 /// A part that an input has not.
-fn put_local(out: &mut Vec<u8>, part: &Option<Verified>) -> Result<(), OutOfMemory>
+fn put_local(out: &mut Vec<u8>, part: &Option<Decoded>) -> Result<(), OutOfMemory>
     requires { IfSome part.now (λ part. length part.code.instrs < 2 ^ 16) }
     ensures { OnOk result (out.new.items ≡ out.old.items ++ spelling.local_code part.now) }
 {
     match part {
-        Some(part) => put_part(out, part),
+        Some(part) => put_part(out, part.code()),
         None => Ok(()),
     }
 }

@@ -28,8 +28,13 @@ use Rattle.ioa_clash.proofs.index.Index.TheSendSync as index
 use Rattle.ioa_code.specs.contracts.instr.Code as Code
 use Rattle.ioa_code.specs.contracts.instr.Instr as Instr
 use Rattle.ioa_code.specs.contracts.verified.Verified as Verified
-use Rattle.ioa_node.specs.contracts.state.NodeState as NodeState
-use Rattle.ioa_node.specs.contracts.state.Slots as Slots
+use Rattle.ioa_steps.specs.contracts.step.Step as Step
+use Rattle.ioa_steps.specs.contracts.trimmed.Trimmed as Trimmed
+use Rattle.ioa_steps.proofs.step.Step.TheSendSync as steps
+use Rattle.ioa_steps.proofs.trimmed.Trimmed.TheSendSync as trimmed
+use Rattle.ioa_flat.specs.contracts.decoded.Decoded as Decoded
+use Rattle.ioa_flat.specs.contracts.state.NodeState as NodeState
+use Rattle.ioa_flat.proofs.state.NodeState.TheSendSync as states
 use Rattle.ioa_compile.specs.contracts.program.Program as Program
 use Rattle.ioa_sites.specs.contracts.sites.Site as Site
 use Rattle.ioa_compile.specs.contracts.table.Entry as Entry
@@ -84,20 +89,23 @@ code_sync = search (instr_sync, value_sync, crosses, sendable) depth 20
 verified_sync : IsSync Verified.the_row
 verified_sync = search (code_sync, types_sync, crosses, sendable) depth 20
 
-slots_send : IsSend (Slots.the_field).row
-slots_send = search (types_send, crosses, sendable) depth 20
+step_sync : IsSync (Step.the_field).row
+step_sync = steps.the_field_sync
 
-slots_sync : IsSync (Slots.the_field).row
-slots_sync = search (types_sync, crosses, sendable) depth 20
+trimmed_sync : IsSync Trimmed.the_row
+trimmed_sync = trimmed.the_sync
+
+decoded_sync : IsSync Decoded.the_row
+decoded_sync = search (verified_sync, step_sync, trimmed_sync, crosses, sendable) depth 20
 
 state_send : IsSend NodeState.the_row
-state_send = search (value_send, slots_send, slots_sync, crosses, sendable) depth 20
+state_send = states.the_send
 
 state_sync : IsSync NodeState.the_row
-state_sync = search (value_sync, slots_send, slots_sync, crosses, sendable) depth 20
+state_sync = states.the_sync
 
 entry_sync : IsSync (Entry.the_field).row
-entry_sync = search (position_sync, verified_sync, crosses, sendable) depth 20
+entry_sync = search (position_sync, decoded_sync, crosses, sendable) depth 20
 
 member_sync : IsSync (Member.the_field).row
 member_sync = search (state_sync, entry_sync, crosses, sendable) depth 20

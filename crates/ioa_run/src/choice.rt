@@ -16,7 +16,8 @@ ghost use Rattle.ioa_run.specs.Tallies.{IsPick, lost_by};
 
 use crate::tally::{Lost, Pick};
 use ioa_compile::Entry;
-use ioa_node::{NodeState, Proposal, Words, Workspace, proposal_with};
+use ioa_flat::{NodeState, Workspace, proposal_with};
+use ioa_node::{Proposal, Words};
 use ioa_tree::Kind;
 use ioa_value::{Action, OutOfMemory, Position, Value};
 use std::alloc::Global;

@@ -27,7 +27,7 @@ use ioa_compile::{Program, compile};
 use ioa_compose::Composition;
 use ioa_device::{InputDevice, LogErr, OutputDevice, send_all};
 use ioa_enabled::put_enabled;
-use ioa_node::NodeState;
+use ioa_flat::NodeState;
 use ioa_replay::{perform_list, perform_log};
 use ioa_request::Shown;
 use ioa_system::End;
@@ -170,10 +170,10 @@ fn put_shown(
         → AllRelated (HoldsTyped h.hosts program.now.members) 0 hs (values_of states.now) → string_bytes text.new ≡ string_bytes text.old ++ shown_lines h shown hs) }
 {
     match shown {
-        Shown::States => put_states(text, composition, states),
+        Shown::States => put_states(alloc, text, composition, states),
         Shown::Enabled => put_enabled(alloc, text, composition, program, states),
         Shown::Both => {
-            put_states(text, composition, states)?;
+            put_states(alloc, text, composition, states)?;
             put_enabled(alloc, text, composition, program, states)
         }
     }

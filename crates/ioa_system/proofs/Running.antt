@@ -5,13 +5,14 @@ use Rattle.std.proofs.lemmas.List.Elements.{All-head, All-tail, All-cons}
 use Rattle.ioa_value.specs.Actions.{Act}
 use Rattle.ioa_value.specs.Plain.{Val}
 use Rattle.ioa_node.specs.Nodes.{Node}
+use Rattle.ioa_flat.specs.Drafts.{Marked}
 use Rattle.ioa_tree.specs.Steps.{Moved, next, step}
 use Rattle.ioa_compile.specs.Programs.{MemberCode, Prog}
 use Rattle.ioa_compile.specs.Tables.{tabled}
 use Rattle.ioa_system.specs.declared.participation.Participant.{Participant}
 use Rattle.ioa_system.specs.declared.outcomes.Step.{Step}
 use Rattle.ioa_system.specs.Outcomes.{KeepsUnlessNext, step_of}
-use Rattle.ioa_system.specs.Drafted.{AreDrafts, ArePlaces, Draft, drafted}
+use Rattle.ioa_system.specs.Drafted.{AreDrafts, ArePlaces, drafted}
 use Rattle.ioa_system.specs.Found.{components_of, numbers_of, AreParticipants, lent}
 use Rattle.ioa_system.specs.Participants.{put_back, renumbered, all_back}
 use Rattle.ioa_system.specs.Systems.{Running, types_of, values_of, slot_types, slots_of}
@@ -64,7 +65,7 @@ places_found p a ns qs r = record {
   distinct = numbers_distinct a p.members qs r.found;
 }
 
-pub types_put : (qs : List Participant) (ds : List Draft) (before after : List Node) → ArePlaces qs before → AreDrafts before qs ds
+pub types_put : (qs : List Participant) (ds : List Marked) (before after : List Node) → ArePlaces qs before → AreDrafts before qs ds
     → after ≡ put_back (numbers_of qs) (drafted before qs ds) before → types_of after ≡ types_of before
 types_put qs ds before after p h e =
     let v : All (λ n. n < length (types_of before)) (numbers_of qs) = subst (λ j. All (λ n. n < j) (numbers_of qs)) (sym (length-map before slots_of)) (numbers_within qs (length before) p.within) in

@@ -7,7 +7,7 @@ use Rattle.ioa_value.proofs.ItemLemmas.{drop_item}
 use Rattle.ioa_arithmetic.specs.declared.arithmetic.Fault.{Fault}
 use Rattle.ioa_value.specs.Actions.{Act}
 use Rattle.ioa_value.specs.Plain.{Val}
-use Rattle.ioa_node.specs.Drafts.{with_draft}
+use Rattle.ioa_flat.specs.Drafts.{Fits, Marked, with_draft}
 use Rattle.ioa_node.specs.Nodes.{Node}
 use Rattle.ioa_tree.specs.Components.{has, owns, is_local}
 use Rattle.ioa_tree.specs.Steps.{Moved, next, fault, Asked, free, owned, asked, with_state, then_rest, effects, allowed, step}
@@ -17,7 +17,7 @@ use Rattle.ioa_system.specs.declared.outcomes.Step.{Step}
 use Rattle.ioa_system.specs.declared.participation.Participant.{Participant}
 use Rattle.ioa_system.specs.declared.steps.Consent.{Consent}
 use Rattle.ioa_system.specs.Outcomes.{step_of}
-use Rattle.ioa_system.specs.Drafted.{AllFit, AreDrafts, Draft, Fits, drafted}
+use Rattle.ioa_system.specs.Drafted.{AllFit, AreDrafts, drafted}
 use Rattle.ioa_system.specs.Found.{member_of, component_of, components_of, consented, numbers_of, state_of, lent, IsLent, AreReady}
 use Rattle.ioa_system.specs.Participants.{renumbered}
 use Rattle.ioa_system.specs.Systems.{values_of}
@@ -73,18 +73,18 @@ abbrev pub acts_from : Act → List Node → List Participant → ℕ → Moved 
 acts_from a ns qs k = effects k (components_of (drop k qs)) a (lent ns (drop k qs))
 
 -- what stands where the participants before k have their drafts
-pub record ActsOn (a : Act) (ns : List Node) (qs : List Participant) (ds : List Draft) (k : ℕ) : Type 0 where
+pub record ActsOn (a : Act) (ns : List Node) (qs : List Participant) (ds : List Marked) (k : ℕ) : Type 0 where
   pub rest : put_before (values_of (drafted ns (take k qs) ds)) (acts_from a ns qs k) ≡ acts_from a ns qs 0
   pub fit : AllFit ns (take k qs) ds
 
-pub acts_begin : (a : Act) (ns : List Node) (qs : List Participant) (ds : List Draft) → ActsOn a ns qs ds 0
+pub acts_begin : (a : Act) (ns : List Node) (qs : List Participant) (ds : List Marked) → ActsOn a ns qs ds 0
 acts_begin a ns qs ds = record { rest = put_before_none (acts_from a ns qs 0); fit = tt }
 
 acts_here : (a : Act) (ns : List Node) (qs : List Participant) (k : ℕ) (q : Participant) → AtTurn a ns qs k q
     → acts_from a ns qs k ≡ then_rest k ((component_of q).effect a (state_of ns q).values) (acts_from a ns qs (k + 1))
 acts_here a ns qs k q t = let h : has a (component_of q) ≡ true = t.has in rw (t.rest, h) refl
 
-pub acts_next : (a : Act) (ns : List Node) (qs : List Participant) (ds : List Draft) (k : ℕ) (q : Participant) (d : Draft) → ActsOn a ns qs ds k → AtTurn a ns qs k q
+pub acts_next : (a : Act) (ns : List Node) (qs : List Participant) (ds : List Marked) (k : ℕ) (q : Participant) (d : Marked) → ActsOn a ns qs ds k → AtTurn a ns qs k q
     → k < length qs → q ≡ get_or qs k q → k < length ds
     → Ok (with_draft d (state_of ns q)).values ≡ (component_of q).effect a (state_of ns q).values → Fits d (state_of ns q) → ActsOn a ns qs (set ds k d) (k + 1)
 acts_next a ns qs ds k q d s t l g m e fits =
@@ -101,14 +101,14 @@ acts_next a ns qs ds k q d s t l g m e fits =
       fit = fit_more ns qs ds k q d l g m s.fit fits;
     }
 
-pub acts_fault : (a : Act) (ns : List Node) (qs : List Participant) (ds : List Draft) (k : ℕ) (q : Participant) (f : Fault) → ActsOn a ns qs ds k → AtTurn a ns qs k q
+pub acts_fault : (a : Act) (ns : List Node) (qs : List Participant) (ds : List Marked) (k : ℕ) (q : Participant) (f : Fault) → ActsOn a ns qs ds k → AtTurn a ns qs k q
     → Err f ≡ (component_of q).effect a (state_of ns q).values → fault q.component f ≡ renumbered (numbers_of qs) (acts_from a ns qs 0)
 acts_fault a ns qs ds k q f s t e =
     let r : acts_from a ns qs k ≡ fault k f = acts_here a ns qs k q t ∙ ap (λ (y : Result (List Val) Fault). then_rest k y (acts_from a ns qs (k + 1))) (sym e) in
     let p : fault k f ≡ acts_from a ns qs 0 = ap (put_before (values_of (drafted ns (take k qs) ds))) (sym r) ∙ s.rest in
     ap (λ j. fault j f) (sym t.number) ∙ ap (renumbered (numbers_of qs)) p
 
-pub acts_end : (a : Act) (ns : List Node) (qs : List Participant) (ds : List Draft) (k : ℕ) → ActsOn a ns qs ds k → length qs ≤ k
+pub acts_end : (a : Act) (ns : List Node) (qs : List Participant) (ds : List Marked) (k : ℕ) → ActsOn a ns qs ds k → length qs ≤ k
     → next (values_of (drafted ns qs ds)) ≡ renumbered (numbers_of qs) (acts_from a ns qs 0)
 acts_end a ns qs ds k s l =
     let after : List Node = drafted ns (take k qs) ds in
@@ -117,7 +117,7 @@ acts_end a ns qs ds k s l =
     let w : next (values_of after) ≡ acts_from a ns qs 0 = rw append-nil at p in
     ap (λ (ts : List Node). next (values_of ts)) (sym (drafted_whole ns qs ds k l)) ∙ ap (renumbered (numbers_of qs)) w
 
-pub drafts_end : (a : Act) (ns : List Node) (qs : List Participant) (ds : List Draft) (k : ℕ) → ActsOn a ns qs ds k → length qs ≤ k → length qs ≤ length ds → AreDrafts ns qs ds
+pub drafts_end : (a : Act) (ns : List Node) (qs : List Participant) (ds : List Marked) (k : ℕ) → ActsOn a ns qs ds k → length qs ≤ k → length qs ≤ length ds → AreDrafts ns qs ds
 drafts_end a ns qs ds k s l c = record { count = c; fit = subst (λ ps. AllFit ns ps ds) (take_all k qs l) s.fit }
 
 -- ---- the step

@@ -14,7 +14,7 @@ use crate::outcomes::Step;
 use crate::participation::{Participant, Participation};
 use crate::steps::moved;
 use ioa_compile::Program;
-use ioa_node::{Draft, NodeState, Workspace};
+use ioa_flat::{Draft, NodeState, Workspace};
 use ioa_value::{Action, OutOfMemory};
 use std::alloc::Global;
 use std::mem;
@@ -27,7 +27,7 @@ pub struct Stepper<'a> {
     room: Vec<Participant<'a>>,
     /// Memory in which the participants' code runs.
     workspace: Workspace,
-    /// Room for the participants' new values.
+    /// Room for the participants' new words.
     drafts: Vec<Draft>,
 }
 
@@ -98,21 +98,16 @@ impl<'a> Stepper<'a> {
             participation.action(),
             states,
         )?;
-        settle(participants, states, &mut self.drafts, step);
+        settle(participants, states, &self.drafts, step);
         Ok(step)
     }
 }
 
-/// Puts the participants' new values in place where the step is performed. Otherwise the states stay as they are.
-fn settle(
-    participants: &[Participant<'_>],
-    states: &mut [NodeState],
-    drafts: &mut [Draft],
-    step: Step,
-)
+/// Puts the participants' new words in place where the step is performed. Otherwise the states stay as they are.
+fn settle(participants: &[Participant<'_>], states: &mut [NodeState], drafts: &[Draft], step: Step)
     requires places { ArePlaces participants.now states.old }
-    requires drafts { IfNext step (AreDrafts states.old participants.now drafts.old) }
-    ensures step { step_of step (values_of states.new) ≡ all_back (numbers_of participants.now) (values_of states.old) (step_of step (values_of (drafted states.old participants.now drafts.old))) }
+    requires drafts { IfNext step (AreDrafts states.old participants.now drafts.now) }
+    ensures step { step_of step (values_of states.new) ≡ all_back (numbers_of participants.now) (values_of states.old) (step_of step (values_of (drafted states.old participants.now drafts.now))) }
     ensures kept { KeepsUnlessNext step states.old states.new }
     ensures types { types_of states.new ≡ types_of states.old }
 {
@@ -122,14 +117,14 @@ fn settle(
     }
 }
 
-/// Moves the participants' new values to their components' states.
-fn install(participants: &[Participant<'_>], states: &mut [NodeState], drafts: &mut [Draft])
+/// Puts the participants' new words in their components' states.
+fn install(participants: &[Participant<'_>], states: &mut [NodeState], drafts: &[Draft])
     requires places { ArePlaces participants.now states.old }
-    requires drafts { AreDrafts states.old participants.now drafts.old }
-    ensures { states.new ≡ put_back (numbers_of participants.now) (drafted states.old participants.now drafts.old) states.old }
+    requires drafts { AreDrafts states.old participants.now drafts.now }
+    ensures { states.new ≡ put_back (numbers_of participants.now) (drafted states.old participants.now drafts.now) states.old }
 {
     for i in 0..participants.len() {
         let participant = &participants[i];
-        states[participant.component].change(&mut drafts[i]);
+        states[participant.component].change(&drafts[i]);
     }
 }

@@ -3,15 +3,15 @@
 ghost use Rattle.std.specs.Prelude.{◌≡◌, ◌≤◌, All, List, IfOk, OnOk, length, map, Some};
 ghost use Rattle.ioa_value.specs.Plain.{Val};
 ghost use Rattle.ioa_value.specs.Actions.{act_of};
-ghost use Rattle.ioa_node.specs.Drafts.{standing};
 ghost use Rattle.ioa_node.specs.Runs.{left_by};
+ghost use Rattle.ioa_flat.specs.Drafts.{Fits, standing};
 ghost use Rattle.ioa_tree.specs.Steps as steps;
 ghost use Rattle.ioa_compile.specs.Shown.{entry_code, member_code};
 ghost use Rattle.ioa_compile.specs.Tables as tables;
 ghost use Rattle.ioa_compile.specs.Tables.{AreEntries, table_component, tabled};
 ghost use Rattle.ioa_system.specs.Outcomes.{AreOfTypes, IfNext, moved_of, step_of};
 ghost use Rattle.ioa_system.specs.Found.{AreReady, IsLent, components_of, consented, lent, lent_types, numbers_of, placed};
-ghost use Rattle.ioa_system.specs.Drafted.{AreDrafts, Fits, drafted};
+ghost use Rattle.ioa_system.specs.Drafted.{AreDrafts, drafted};
 ghost use Rattle.ioa_system.specs.Participants as spec;
 ghost use Rattle.ioa_system.specs.Preconditions as preconditions;
 ghost use Rattle.ioa_system.specs.Systems.{slot_types, slots_of, types_of, values_of};
@@ -19,7 +19,7 @@ ghost use Rattle.ioa_system.specs.Systems.{slot_types, slots_of, types_of, value
 use crate::outcomes::{Moved, Step};
 use crate::participation::{Participant, Participation};
 use ioa_compile::{Entry, Member, Program};
-use ioa_node::{Draft, NodeState, Workspace, draft_effect, enabled_with};
+use ioa_flat::{Draft, NodeState, Workspace, draft_effect, enabled_with};
 use ioa_value::{Action, Fault, OutOfMemory};
 use std::alloc::Global;
 
@@ -58,7 +58,6 @@ impl Participation<'_, '_> {
         ensures { IfOk result (λ b. b ≡ preconditions.precondition_faults (tabled self.now.program) self.now.action (values_of states.now)) }
     {
         let consent = asked(
-            alloc,
             &mut Workspace::new(alloc),
             self.participants(),
             self.action(),
@@ -86,7 +85,7 @@ impl Participation<'_, '_> {
             self.action(),
             states,
         )?;
-        answer(alloc, participants, states, &mut drafts, step)
+        answer(alloc, participants, states, &drafts, step)
     }
 }
 
@@ -127,12 +126,12 @@ fn answer(
     alloc: Global,
     participants: &[Participant<'_>],
     states: &[NodeState],
-    drafts: &mut [Draft],
+    drafts: &[Draft],
     step: Step,
 ) -> Result<Moved, OutOfMemory>
     requires states { All (IsLent states.now) participants.now }
-    requires drafts { IfNext step (AreDrafts states.now participants.now drafts.old) }
-    ensures value { IfOk result (λ m. moved_of m ≡ step_of step (values_of (drafted states.now participants.now drafts.old))) }
+    requires drafts { IfNext step (AreDrafts states.now participants.now drafts.now) }
+    ensures value { IfOk result (λ m. moved_of m ≡ step_of step (values_of (drafted states.now participants.now drafts.now))) }
     ensures types { IfOk result (AreOfTypes (lent_types participants.now)) }
 {
     match step {
@@ -143,28 +142,28 @@ fn answer(
     }
 }
 
-/// Equals of the participants' states, with the new values of their drafts.
+/// Equals of the participants' states, with the new words of their drafts.
 fn changed(
     alloc: Global,
     participants: &[Participant<'_>],
     states: &[NodeState],
-    drafts: &mut [Draft],
+    drafts: &[Draft],
 ) -> Result<Vec<NodeState>, OutOfMemory>
     requires states { All (IsLent states.now) participants.now }
-    requires drafts { AreDrafts states.now participants.now drafts.old }
-    ensures { IfOk result (λ after. after.items ≡ drafted states.now participants.now drafts.old) }
+    requires drafts { AreDrafts states.now participants.now drafts.now }
+    ensures { IfOk result (λ after. after.items ≡ drafted states.now participants.now drafts.now) }
 {
     let mut after = Vec::new(alloc);
     for i in 0..participants.len() {
         let participant = &participants[i];
         let mut state = states[participant.place].try_copy(alloc)?;
-        state.change(&mut drafts[i]);
+        state.change(&drafts[i]);
         after.push(state)?;
     }
     Ok(after)
 }
 
-/// What the participants' step answers from the states at hand. Where it answers `Next`, the drafts hold the new values of
+/// What the participants' step answers from the states at hand. Where it answers `Next`, the drafts hold the new words of
 /// the participants' variables, in order; the states stay as they are. The memory of the workspace and the drafts is
 /// used again.
 pub(crate) fn moved(
@@ -183,8 +182,8 @@ pub(crate) fn moved(
         return Ok(Step::NotAnAction);
     }
     make_room(alloc, drafts, participants.len())?;
-    match asked(alloc, workspace, participants, action, states)? {
-        Consent::Given => effects(alloc, workspace, drafts, participants, action, states),
+    match asked(workspace, participants, action, states)? {
+        Consent::Given => effects(workspace, drafts, participants, action, states),
         Consent::Denied => Ok(Step::NotEnabled),
         Consent::Faulted(component, fault) => Ok(Step::Fault(component, fault)),
     }
@@ -202,7 +201,6 @@ fn make_room(alloc: Global, drafts: &mut Vec<Draft>, count: usize) -> Result<(),
 
 /// Whether the owner lets the action be performed.
 fn asked(
-    alloc: Global,
     workspace: &mut Workspace,
     participants: &[Participant<'_>],
     action: &Action,
@@ -216,7 +214,6 @@ fn asked(
         if participant.entry.kind.is_local() {
             let state = &states[participant.place];
             let answer = guard(
-                alloc,
                 workspace,
                 participant.member,
                 participant.entry,
@@ -242,7 +239,6 @@ fn consent_by(owner: usize, answer: Result<bool, Fault>) -> Consent
 
 /// The participants' effects in order, each on a draft of its own over its own state, up to the first fault.
 fn effects(
-    alloc: Global,
     workspace: &mut Workspace,
     drafts: &mut [Draft],
     participants: &[Participant<'_>],
@@ -258,7 +254,6 @@ fn effects(
         let participant = &participants[i];
         let state = &states[participant.place];
         match effect_on(
-            alloc,
             workspace,
             &mut drafts[i],
             participant.member,
@@ -275,7 +270,6 @@ fn effects(
 
 /// What the component's precondition answers in this state. An entry without one allows its action.
 fn guard(
-    alloc: Global,
     workspace: &mut Workspace,
     member: &Member,
     entry: &Entry,
@@ -288,14 +282,13 @@ fn guard(
     ensures { IfOk result (λ r. r ≡ (table_component (member_code member.now)).guard (act_of action.now) state.now.values) }
 {
     match &entry.pre {
-        Some(code) => enabled_with(alloc, workspace, code, state, &action.vals),
+        Some(code) => enabled_with(workspace, code, state, &action.vals),
         None => Ok(Ok(true)),
     }
 }
 
-/// The new values that the component's effect gives to this state's variables, in the draft, or the effect's fault.
+/// The new words that the component's effect gives to this state's variables, in the draft, or the effect's fault.
 fn effect_on(
-    alloc: Global,
     workspace: &mut Workspace,
     draft: &mut Draft,
     member: &Member,
@@ -306,8 +299,8 @@ fn effect_on(
     requires sound { AreEntries (member_code member.now) (member_code member.now).entries }
     requires found { tables.entry_of (member_code member.now) (act_of action.now) ≡ Some (entry_code entry.now) }
     requires slots { slots_of state.now ≡ slots_of (member_code member.now).start }
-    ensures value { IfOk result (λ r. left_by r (standing draft.new state.now.values) ≡ (table_component (member_code member.now)).effect (act_of action.now) state.now.values) }
+    ensures value { IfOk result (λ r. left_by r (standing draft.new state.now) ≡ (table_component (member_code member.now)).effect (act_of action.now) state.now.values) }
     ensures fits { IfOk result (λ r. IfOk r (λ _. Fits draft.new state.now)) }
 {
-    draft_effect(alloc, workspace, draft, &entry.effect, state, &action.vals)
+    draft_effect(workspace, draft, &entry.effect, state, &action.vals)
 }

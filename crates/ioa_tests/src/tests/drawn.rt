@@ -4,9 +4,9 @@ ghost use Rattle.std.specs.Prelude.{◌≡◌, [], IfSome};
 ghost use Rattle.ioa_code.specs.declared.instr.PartKind.TheVariants as kinds;
 
 use crate::tests::made::{Got, expect_so, program};
-use ioa_code::Verified;
 use ioa_compile::Program;
-use ioa_node::{NodeState, Words, Workspace, propose, propose_with};
+use ioa_flat::{Decoded, NodeState, Workspace, propose, propose_with};
+use ioa_node::Words;
 use ioa_rows::GAME;
 use ioa_run::Seeded;
 use ioa_value::{Action, Value, print_action, same_all};
@@ -114,7 +114,7 @@ static DRAWS: [Draw; 9] = [
 ];
 
 /// The code that proposes, of the entry in this place of the component of this number, with the state in which the component starts.
-pub fn proposing(program: &Program, number: usize, place: usize) -> Option<(&Verified, &NodeState)>
+pub fn proposing(program: &Program, number: usize, place: usize) -> Option<(&Decoded, &NodeState)>
     ensures { IfSome result (λ r. (r.0.now.kind ≡ kinds.Propose) × (r.0.now.args ≡ []) × (r.1.now.table ≡ r.0.now.code.types) × (r.1.now.types ≡ r.0.now.slots)) }
 {
     let member = program.members().get(number)?;

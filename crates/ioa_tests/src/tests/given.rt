@@ -1,9 +1,10 @@
 //! Programs that are made of given tables, each component with one entry without positions, which is enabled at any time and does nothing.
 
+use crate::tests::code::decoded;
 use crate::tests::made::{Got, basic};
-use ioa_code::{Code, Env, Instr, PartKind, Verified, verify};
+use ioa_code::{Code, Env, Instr, PartKind, verify};
 use ioa_compile::{Entry, Member, Program, TableErr, Tables};
-use ioa_node::from_values;
+use ioa_flat::{Decoded, from_values};
 use ioa_tree::Kind;
 use ioa_value::{Ty, Types, Value};
 use std::alloc::Global;
@@ -48,7 +49,7 @@ static ROWS: [Row; 9] = [
 ];
 
 /// Code of this kind over no variables and no positions, with the constant true, which a precondition gives.
-fn part(rt: &impl Abort, alloc: Global, types: &Types, kind: PartKind) -> Verified {
+fn part(rt: &impl Abort, alloc: Global, types: &Types, kind: PartKind) -> Decoded {
     let (instrs, result): (&[Instr], &[Ty]) = match kind {
         PartKind::Pre => (&[Instr::Const(0)], &[Ty::BOOL]),
         _ => (&[], &[]),
@@ -64,7 +65,8 @@ fn part(rt: &impl Abort, alloc: Global, types: &Types, kind: PartKind) -> Verifi
         arguments: &[],
         result,
     };
-    verify(alloc, code, &env).expect(rt, "valid code")
+    let code = verify(alloc, code, &env).expect(rt, "valid code");
+    decoded(rt, alloc, code)
 }
 
 /// The same of an entry of this kind: an input has neither precondition nor proposal.
@@ -74,7 +76,7 @@ fn own_part(
     types: &Types,
     entry: Kind,
     kind: PartKind,
-) -> Option<Verified> {
+) -> Option<Decoded> {
     match entry {
         Kind::Input => None,
         _ => Some(part(rt, alloc, types, kind)),

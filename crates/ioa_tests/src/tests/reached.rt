@@ -2,7 +2,7 @@
 
 use crate::tests::made::{Got, action, expect_so, expect_text, program};
 use ioa_compile::Program;
-use ioa_node::{NodeState, state_values};
+use ioa_flat::{NodeState, state_values};
 use ioa_rows::COUNTER;
 use ioa_system::{End, Participation, Run, is_external, owner, participants, run_list};
 use ioa_value::{Action, Fault, Types, print_action, read_list};
@@ -91,6 +91,29 @@ static RUNS: [(&str, &str, &str); 10] = [
     ),
 ];
 
+const PAIRS: &str = "
+type Pair = tuple { a: Int, b: Bool }
+type P = seq 2 of Pair
+automaton A signature output take states q: P := append(empty(P), Pair(7, true)) transitions output take eff q := tail(q)
+composition One components X: A";
+
+/// A source of one component, a list of actions, and the words of the state that they reach.
+static WORDS: [(&str, &str, &[i64]); 4] = [
+    // no number in the queue, and room for 16; none is told yet; the host is up
+    (
+        HOST,
+        "",
+        &[0, 0, 0, 0, 0, 0, 0, 0, 0, 0, 0, 0, 0, 0, 0, 0, 0, 0, 1],
+    ),
+    (
+        HOST,
+        "put(0)\nput(1)",
+        &[2, 0, 1, 0, 0, 0, 0, 0, 0, 0, 0, 0, 0, 0, 0, 0, 0, 2, 1],
+    ),
+    (PAIRS, "", &[1, 7, 1, 0, 0]),
+    (PAIRS, "take", &[0, 0, 0, 0, 0]),
+];
+
 /// The values of a state, told as those of an action.
 pub fn told_state(rt: &impl Abort, alloc: Global, types: &Types, state: &NodeState) -> String {
     let values = Action {
@@ -124,6 +147,23 @@ fn reached(rt: &impl Abort, alloc: Global, source: &str, list: &str) -> String {
     let (end, performed, shown) = (run.end, run.performed, run.trace.len());
     let told = format!(in alloc; "{end}, {performed} performed, {shown} shown{states}");
     told.got(rt)
+}
+
+/// Whether the only state that the list reaches has these words.
+fn has_words(rt: &impl Abort, alloc: Global, source: &str, list: &str, words: &[i64]) -> bool {
+    let program = program(rt, alloc, source, None);
+    let run = run_of(rt, alloc, &program, list);
+    match run.states.as_slice() {
+        [state] => state.words() == words,
+        _ => false,
+    }
+}
+
+#[test]
+fn states_are_words(rt: HostRuntime) {
+    for (source, list, words) in &WORDS {
+        assert!(rt; has_words(&rt, rt.alloc(), source, list, words));
+    }
 }
 
 #[test]

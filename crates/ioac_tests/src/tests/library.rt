@@ -1,8 +1,8 @@
 //! The library of protocols: its text, lists of actions on its compositions, and runs by chance that its specifications monitor.
 
 use crate::tests::shelf::{First, Given, Wanted, expect, expect_rows, run};
-use ioa_code::Verified;
 use ioa_compile::Program;
+use ioa_flat::Decoded;
 use ioa_object::write_object;
 use ioac::{Status, compile_text};
 use std::alloc::Global;
@@ -127,9 +127,9 @@ fn runs_are_accepted(rt: HostRuntime) {
 }
 
 /// How many instructions the part has, if it is there.
-fn instructions_in(part: &Option<Verified>) -> usize {
+fn instructions_in(part: &Option<Decoded>) -> usize {
     match part {
-        Some(part) => part.instrs().len(),
+        Some(part) => part.code().instrs().len(),
         None => 0,
     }
 }
@@ -141,7 +141,7 @@ fn instruction_count(program: &Program) -> usize {
         for entry in &member.entries {
             count = count.saturating_add(instructions_in(&entry.pre));
             count = count.saturating_add(instructions_in(&entry.propose));
-            count = count.saturating_add(entry.effect.instrs().len());
+            count = count.saturating_add(entry.effect.code().instrs().len());
         }
     }
     count

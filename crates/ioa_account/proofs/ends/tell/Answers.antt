@@ -25,7 +25,7 @@ returns-clause-told c = λ h stands.
     let r = run (hosts_of h) acts (host_starts h) in
     let end = ending_of c.args.reached.now.end in
     let component = c.component_of-component.result in
-    let down = c.is_down_in-is_down.result in
+    let down = c.in_ok-is_down.is_down in
     let same : r.ending ≡ end = said.ending in
     let holding : (ns : List Node) → ns ≡ c.args.reached.now.states.items → AllRelated (SlotsHoldAt h.hosts) 0 r.states (values_of ns) = λ ns e.
     subst (λ (xs : List Node). AllRelated (SlotsHoldAt h.hosts) 0 r.states (values_of xs)) (sym e) said.states in
@@ -40,7 +40,7 @@ returns-clause-told c = λ h stands.
       component = c.component_of-component.ensures (of_hosts h) runs ∙ ap (component_in (hosts_of h) acts) (sym same);
       why = c.in_ok-why.ensures ∙ ap (λ types. why types acts c.name_of-name.result.now down early end) (c.types.ensures.value ∙ stands.types)
           ∙ ap (λ x. why h.types acts x down early end) (c.name_of-name.ensures h stands)
-          ∙ ap (λ d. why h.types acts (name_of h.hosts component) d early end) (c.is_down_in-is_down.ensures h r.states stands (holding c.deref.result.now c.deref.ensures.value))
+          ∙ ap (λ d. why h.types acts (name_of h.hosts component) d early end) (c.in_ok-is_down.ensures h r.states stands (holding c.deref.result.now c.deref.ensures.value))
           ∙ ap (λ e. why h.types acts (name_of h.hosts component) (is_down_in h.hosts r.states component) e end) asks
           ∙ ap (why h.types acts (name_of h.hosts component) (is_down_in h.hosts r.states component) (faults_early (hosts_of h) acts c.args.index r.states)) (sym same);
       states = c.in_ok-states.ensures h r.states stands (holding c.deref-3.result.now c.deref-3.ensures.value);

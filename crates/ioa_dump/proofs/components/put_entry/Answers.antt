@@ -1,5 +1,6 @@
 use Rattle.std.proofs.Common.{◌≡◌, ◌++◌, ℕ, List, OnOk, codes, map, string_bytes, ap, ap₂, subst, ◌∙◌}
 use Rattle.ioa_value.specs.Positions.{domain_of}
+use Rattle.ioa_code.specs.Valid.{Part}
 use Rattle.ioa_dump.specs.Dumps.{kind_word, local_lines, part_lines, position_line, value_line}
 use Rattle.ioa_picture.specs.Lines.{numbered}
 use Rattle.ioa_picture.proofs.Numbered.{behind, behind_line}
@@ -24,11 +25,12 @@ returns c =
     let heads : headed ≡ start ++ head (kind_word e.kind) (string_bytes e.name) =
     c.in_ok-writeln.ensures.bytes ∙ ap₂ (λ kind name. start ++ head kind name) c.kind_word-kind.ensures c.as_str-name.ensures.value in
     let takes : positioned ≡ headed ++ positions = c.in_ok-put_positions.ensures ∙ ap (λ ps. headed ++ numbered (position_line types) 0 (map domain_of ps)) c.deref.ensures.value in
-    let holds : held ≡ positioned ++ constants = c.in_ok-put_values.ensures ∙ ap (λ vs. positioned ++ numbered (value_line (codes "    constant") types) 0 vs) c.consts.ensures in
+    let holds : held ≡ positioned ++ constants = c.in_ok-put_values.ensures ∙ ap (λ vs. positioned ++ numbered (value_line (codes "    constant") types) 0 vs) (c.consts.ensures ∙ ap (λ (p : Part). p.code.consts) c.code-effect.ensures) in
     let whole = behind guarded proposed propose effect c.in_ok-put_local-2.ensures
     ∙ behind held guarded guard (propose ++ effect) c.in_ok-put_local.ensures
     ∙ behind positioned held constants (guard ++ (propose ++ effect)) holds
     ∙ behind headed positioned positions (constants ++ (guard ++ (propose ++ effect))) takes
     ∙ behind start headed (head (kind_word e.kind) (string_bytes e.name)) (positions ++ (constants ++ (guard ++ (propose ++ effect)))) heads
     ∙ ap (λ l. start ++ l) (behind_line (codes "  ") (kind_word e.kind) (codes " ") (string_bytes e.name) (codes "\n") (positions ++ (constants ++ (guard ++ (propose ++ effect))))) in
-    subst (λ l. OnOk c.put_part.result (string_bytes c.put_part.new.text ≡ l)) whole c.put_part.ensures
+    subst (λ l. OnOk c.put_part.result (string_bytes c.put_part.new.text ≡ l)) whole
+    (subst (λ (p : Part). OnOk c.put_part.result (string_bytes c.put_part.new.text ≡ proposed ++ part_lines types (codes "effect") p)) c.code-effect.ensures c.put_part.ensures)

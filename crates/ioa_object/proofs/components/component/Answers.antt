@@ -50,7 +50,7 @@ from_values-requires c =
     (named_alike member_code (λ m. m.name) c.args.before.now _ _ _ c.is_named.ensures c.if-is_named.false) in
     let named = yielded _ _ c.in_ok-name.name.text.now c.name.new.self
     ((name_format (contains (map (λ m. m.name) (map member_code c.args.before.now)))).yields c.args.cursor.now c.alloc-alloc.ensures.bytes) free in
-    let started = yielded _ _ vs c.values.new.cursor ((values_format types c.requires component_limits.variables (omega arith)).yields c.name.new.self named.after) c.in_ok-starts.ensures in
+    let started = yielded _ _ vs c.values.new.cursor ((values_format types c.requires.types component_limits.variables (omega arith)).yields c.name.new.self named.after) c.in_ok-starts.ensures in
     rw (c.deref-4.ensures.value, c.deref-3.ensures.value) (HaveTypes-from_own types vs (map number c.in_ok-slots.slots.items) (sym slots) (own_types types vs started.fine.fine))
 
 pub returns : goal.returns

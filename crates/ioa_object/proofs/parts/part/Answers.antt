@@ -14,9 +14,9 @@ count_part-requires c =
     let before = c.alloc-alloc.ensures.parts in
     omega arith
 
-pub returns-in-Ok : goal.returns-in-Ok
+pub returns-in_ok-decoded-in-Ok : goal.returns-in_ok-decoded-in-Ok
 unfolding part_at
-returns-in-Ok c =
+returns-in_ok-decoded-in-Ok c =
     let env = c.args.env.now in
     let is = c.in_ok-instrs.instrs.items in
     let d = c.instructions.new.cursor in
@@ -27,3 +27,4 @@ returns-in-Ok c =
     let sound = subst (λ (p : Part). IsVerified p) same c.in-Ok.ensures.sound in
     then_ok _ _ (is, d) c.in_ok-instrs.ensures.read ∙ ap (λ v. verified v whole d) ((exact whole).1 sound.valid)
     ∙ ap (λ p. Ok (p, counted d)) (sym same) ∙ ap (λ e. Ok (c.in-Ok.verified, e)) (sym c.count_part.ensures)
+    ∙ ap (λ v. Ok (v, c.count_part.new.self)) (sym c.in_ok-decoded-in-Ok.ensures)

@@ -6,13 +6,13 @@ use Rattle.ioa_system.proofs.stepper.install.Goals as goal
 
 pub change-requires : goal.change-requires
 change-requires c =
-    fit_next c.args.states.now c.args.drafts.now c.args.participants.now c.loop-i.i c.loop-i.states c.loop-i.drafts c.index-participants-i.result c.index-drafts-i.result c.index-states-participant.result
-    c.loop-i.invariant c.requires.places c.requires.drafts c.loop-i.auto.states c.loop-i.auto.drafts c.loop-i-test.true c.index-participants-i.is
+    fit_next c.args.states.now c.args.drafts.now c.args.participants.now c.loop-i.i c.loop-i.states c.index-participants-i.result c.index-drafts-i.result c.index-states-participant.result
+    c.loop-i.invariant c.requires.places c.requires.drafts c.loop-i.auto.states c.loop-i-test.true c.index-participants-i.is c.index-drafts-i.is
 
 pub loop-i-preserved : goal.loop-i-preserved
 loop-i-preserved c =
     let qs : List Participant = c.args.participants.now in
     let q : Participant = c.index-participants-i.result in
-    subst (λ (y : Node). Installs c.args.states.now c.args.drafts.now qs (c.loop-i.i + 1) (set c.loop-i.states q.component y) (set c.loop-i.drafts c.loop-i.i c.change.new.draft)) (sym c.change.ensures)
-    (installs_next c.args.states.now c.args.drafts.now qs c.loop-i.i c.loop-i.states c.loop-i.drafts q c.index-drafts-i.result c.index-states-participant.result
-    c.loop-i.invariant c.requires.places c.requires.drafts c.loop-i.auto.states c.loop-i.auto.drafts c.loop-i-test.true c.index-participants-i.is c.change.new.draft)
+    subst (λ (y : Node). Installs c.args.states.now c.args.drafts.now qs (c.loop-i.i + 1) (set c.loop-i.states q.component y)) (sym c.change.ensures)
+    (installs_next c.args.states.now c.args.drafts.now qs c.loop-i.i c.loop-i.states q c.index-drafts-i.result c.index-states-participant.result
+    c.loop-i.invariant c.requires.places c.requires.drafts c.loop-i.auto.states c.loop-i-test.true c.index-participants-i.is c.index-drafts-i.is)

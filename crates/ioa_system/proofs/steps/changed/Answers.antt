@@ -1,10 +1,9 @@
-use Rattle.std.proofs.Common.{◌≡◌, ◌++◌, ◌∷◌, [], List, get_or, sym, ap, subst, ◌∙◌}
-use Rattle.ioa_node.specs.Drafts.{with_draft}
+use Rattle.std.proofs.Common.{◌≡◌, ◌<◌, ◌++◌, ◌∷◌, [], List, length, sym, ap, subst, ◌∙◌, arith}
 use Rattle.ioa_node.specs.Nodes.{Node}
+use Rattle.ioa_flat.specs.Drafts.{Fits, Marked, with_draft}
 use Rattle.ioa_system.specs.declared.participation.Participant.{Participant}
-use Rattle.ioa_system.specs.Drafted.{Draft, Fits}
 use Rattle.ioa_system.specs.Found.{IsLent, state_of}
-use Rattle.ioa_system.proofs.Drafting.{copies_next, copy_fits}
+use Rattle.ioa_system.proofs.Drafting.{drafted_more, fit_at}
 use Rattle.ioa_system.proofs.Stepping.{state_is}
 use Rattle.ioa_system.proofs.steps.changed.Goals as goal
 use Rattle.ioa_system.proofs.steps.changed.Goals.{In_ok-state}
@@ -20,16 +19,18 @@ copied c =
 pub change-requires : goal.change-requires
 change-requires c =
     let at = (goal.at.change-requires c).In_ok-state in
-    let d : Draft = get_or c.loop-i.drafts c.loop-i.i c.index-drafts-i.result in
-    subst (Fits d) (sym (copied at))
-    (copy_fits c.args.states.now c.args.participants.now c.args.drafts.now c.loop-i.i c.loop-i.after.items c.loop-i.drafts c.index-participants-i.result c.index-drafts-i.result
-    c.loop-i.invariant c.requires.drafts c.loop-i.auto.drafts c.loop-i-test.true c.index-participants-i.is)
+    let k = c.loop-i.i in
+    let room : k < length c.args.drafts.now = omega (arith, c.requires.drafts.count, c.loop-i-test.true) in
+    subst (Fits c.index-drafts-i.result) (sym (copied at))
+    (fit_at c.args.states.now c.args.participants.now c.args.drafts.now k c.index-participants-i.result c.index-drafts-i.result c.loop-i-test.true c.index-participants-i.is room c.index-drafts-i.is c.requires.drafts.fit)
 
 pub loop-i-preserved : goal.loop-i-preserved
 loop-i-preserved c =
     let at = (goal.at.loop-i-preserved c).In_ok-state in
-    let d : Draft = get_or c.loop-i.drafts c.loop-i.i c.index-drafts-i.result in
+    let k = c.loop-i.i in
+    let d : Marked = c.index-drafts-i.result in
+    let room : k < length c.args.drafts.now = omega (arith, c.requires.drafts.count, c.loop-i-test.true) in
     let new : c.change.new.self ≡ with_draft d (state_of c.args.states.now c.index-participants-i.result) = c.change.ensures ∙ ap (with_draft d) (copied at) in
-    copies_next c.args.states.now c.args.participants.now c.args.drafts.now c.loop-i.i c.loop-i.after.items c.loop-i.drafts c.index-participants-i.result c.index-drafts-i.result
-    c.loop-i.invariant c.requires.drafts c.loop-i.auto.drafts c.loop-i-test.true c.index-participants-i.is
-    c.change.new.draft c.push.new.self.items (c.in_ok-push.ensures.items ∙ ap (λ (n : Node). c.loop-i.after.items ++ n ∷ []) new)
+    c.in_ok-push.ensures.items ∙ ap (λ (n : Node). c.loop-i.after.items ++ n ∷ []) new
+    ∙ ap (λ ns. ns ++ with_draft d (state_of c.args.states.now c.index-participants-i.result) ∷ []) c.loop-i.invariant
+    ∙ sym (drafted_more c.args.states.now c.args.participants.now c.args.drafts.now k c.index-participants-i.result d c.loop-i-test.true c.index-participants-i.is room c.index-drafts-i.is)

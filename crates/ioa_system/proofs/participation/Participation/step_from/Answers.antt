@@ -2,12 +2,13 @@ use Rattle.std.proofs.Common.{◌≡◌, List, IfOk, sym, ap, subst, ◌∙◌}
 use Rattle.std.proofs.lemmas.Result.{IfOk-weaker}
 use Rattle.ioa_value.specs.Actions.{Act}
 use Rattle.ioa_node.specs.Nodes.{Node}
+use Rattle.ioa_flat.specs.Drafts.{Marked}
 use Rattle.ioa_tree.specs.Steps as steps
 use Rattle.ioa_compile.specs.Programs.{Prog}
 use Rattle.ioa_compile.specs.Tables.{tabled}
 use Rattle.ioa_system.specs.declared.participation.Participant.{Participant}
 use Rattle.ioa_system.specs.Outcomes.{AreOfTypes, moved_of, step_of}
-use Rattle.ioa_system.specs.Drafted.{Draft, drafted}
+use Rattle.ioa_system.specs.Drafted.{drafted}
 use Rattle.ioa_system.specs.Found.{AreReady, components_of, lent, numbers_of, placed}
 use Rattle.ioa_system.specs.Participants.{renumbered, step_from}
 use Rattle.ioa_system.specs.Systems.{values_of}
@@ -49,13 +50,13 @@ returns-clause-value c =
     let ns : List Node = c.args.states.now in
     let qs : List Participant = c.participants.result.now in
     let rs : List Participant = c.as_slice-participants.result.now in
-    let answered : List Draft → Type 0 = λ ds. IfOk c.answer.result (λ m. moved_of m ≡ step_of c.in_ok-step.step (values_of (drafted ns rs ds))) in
+    let answered : List Marked → Type 0 = λ ds. IfOk c.answer.result (λ m. moved_of m ≡ step_of c.in_ok-step.step (values_of (drafted ns rs ds))) in
     IfOk-weaker c.answer.result
     (λ m. moved_of m ≡ step_of c.in_ok-step.step (values_of (drafted ns rs c.moved.new.drafts.items)))
     (λ m. moved_of m ≡ step_from (tabled p) a (values_of ns))
     (λ m e. e ∙ c.in_ok-step.ensures.value ∙ ap (λ (b : Act). renumbered (numbers_of rs) (steps.step (components_of rs) b (lent ns rs))) c.action.ensures
     ∙ step_alone p a ns qs rs c.participants.ensures.found (in_order at) c.requires)
-    (subst answered c.deref_mut.ensures.value c.answer.ensures.value)
+    (subst answered c.deref.ensures.value c.answer.ensures.value)
 
 pub returns-clause-types : goal.returns-clause-types
 returns-clause-types c =

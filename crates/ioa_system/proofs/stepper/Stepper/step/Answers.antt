@@ -35,5 +35,5 @@ returns-clause-step c =
     c.in_ok-step.ensures.value ∙ ap (λ (b : Act). renumbered (numbers_of qs) (steps.step (components_of qs) b (lent ns qs))) c.action.ensures in
     (settled c.args.participation.now.program a ns c.settle.new.states qs (step_of c.in_ok-step.step (values_of (drafted ns qs c.moved.new.drafts.items))) c.in_ok-step.step
     (record { found = c.participants-participants.ensures.found; types = c.requires }) w
-    (subst (λ ds. step_of c.in_ok-step.step (values_of c.settle.new.states) ≡ all_back (numbers_of qs) (values_of ns) (step_of c.in_ok-step.step (values_of (drafted ns qs ds)))) c.deref_mut.ensures.value c.settle.ensures.step)
+    (subst (λ ds. step_of c.in_ok-step.step (values_of c.settle.new.states) ≡ all_back (numbers_of qs) (values_of ns) (step_of c.in_ok-step.step (values_of (drafted ns qs ds)))) c.deref.ensures.value c.settle.ensures.step)
     c.settle.ensures.kept c.settle.ensures.types).answer
