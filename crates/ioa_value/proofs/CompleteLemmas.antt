@@ -182,11 +182,14 @@ module _ (types : Table) (declared : AreTypes types) where
   leads_by : (text w : List ℕ) (ty : ℕ) → IsWord w → first_word text ≡ w → leading_type types w ≡ ty → Leads text ty
   leads_by text w ty h e t = record { long = subst (λ x. 0 < length x) (sym e) h.long; type = ap (leading_type types) e ∙ t }
 
-  number_type : (w : List ℕ) (z : ℤ) → SpellsNumber w z → leading_type types w ≡ 1
-  number_type w z s =
-      let letter = number_first w z s in
+  -- of what begins with no letter the type is Int
+  pub letterless : (w : List ℕ) → begins_with_letter w ≡ false → leading_type types w ≡ 1
+  letterless w letter =
       let absent = unnamed types declared w (λ h. false≢true (sym letter ∙ begins_name w h)) in
       rw (no_truth_letter w letter) (rw absent.0 (rw absent.1 refl))
+
+  number_type : (w : List ℕ) (z : ℤ) → SpellsNumber w z → leading_type types w ≡ 1
+  number_type w z s = letterless w (number_first w z s)
 
   equal_types : (a b : ℕ) (c : Bool) → ((a == b) && c) ≡ true → (a ≡ b) × (c ≡ true)
   equal_types a b c h = let p = and_parts (a == b) c h in (equal_numbers a b p.0, p.1)

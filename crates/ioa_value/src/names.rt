@@ -23,7 +23,8 @@ fn is_word(text: &[u8]) -> bool
     begins_with_letter(text) && all_word_bytes(text) && text.len() <= LIMITS.name
 }
 
-fn begins_with_letter(text: &[u8]) -> bool
+/// Whether the bytes begin with a letter, as every name and every reserved word does.
+pub(crate) fn begins_with_letter(text: &[u8]) -> bool
     ensures { result ≡ spec.begins_with_letter text.now }
 {
     match text.first() {

@@ -41,27 +41,8 @@ pub(crate) fn first_value<'a>(
     ensures value { IfOk result (λ r. option_map front_of r ≡ spec.scan_value types.now text.now) }
     ensures types { AreTypes types.now }
 {
-    let ty = leading_type(types, first_word(text).word);
+    let ty = types.leading(first_word(text).word);
     value_of_type(alloc, types, ty, text)
-}
-
-// The type of which a value is that begins with the word, where there is one: of any other word
-// but a truth value or a name that is Int.
-fn leading_type(types: &Types, word: &[u8]) -> Ty
-    ensures value { result.0 ≡ spec.leading_type types.now word.now }
-    ensures within { result.0 < length types.now }
-{
-    let constant = types.spelled_constant(word);
-    if word == b"true".as_slice() || word == b"false".as_slice() {
-        return Ty::BOOL;
-    }
-    if let Some((ty, _)) = constant {
-        return ty;
-    }
-    match types.spelled(word) {
-        Some(ty) => ty,
-        None => Ty::INT,
-    }
 }
 
 // The value of the type at the front of the text.
