@@ -28,7 +28,6 @@ pub mod LineLemmas
 pub mod ListLemmas
 pub mod ListOnceLemmas
 pub mod WholeLemmas
-pub mod NumberLemmas
 pub mod PlaceLemmas
 pub mod TypingLemmas
 pub mod OperandLemmas

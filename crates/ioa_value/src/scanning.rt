@@ -1,13 +1,12 @@
 //! Values at the front of a text. The first word tells of which type a value is.
 
-ghost use Rattle.std.specs.Prelude.{◌≡◌, ℤ, ◌<◌, ℕ, All, Some, None, IsTrue, IfSome, IfNone, IfOk, if◌then◌else◌, length, map, drop, slice_get};
+ghost use Rattle.std.specs.Prelude.{◌≡◌, ◌<◌, ◌≤◌, ◌^◌, All, Some, None, IsTrue, IfSome, IfNone, IfOk, if◌then◌else◌, length, map, drop, slice_get};
 ghost use Rattle.std.specs.Option.{option_map};
 ghost use Rattle.std.specs.Str.{bytes_eq};
+ghost use Rattle.std.specs.Str.Parse.{digits_value};
 ghost use Rattle.ioa_value.specs.Plain.{number as number_of_type, plain, plain_all, num as plain_num, none};
-ghost use Rattle.ioa_arithmetic.specs.Arithmetic.{fits};
 ghost use Rattle.ioa_value.specs.Table.{AreTypes, Shape, type_name};
 ghost use Rattle.ioa_value.specs.Shapes.{shape};
-ghost use Rattle.ioa_value.specs.Reads.{SpellsNumber};
 ghost use Rattle.ioa_value.specs.Fronts.{front_of, row_of};
 ghost use Rattle.ioa_value.specs.Tokens as tokens;
 ghost use Rattle.ioa_value.specs.Scanning as spec;
@@ -162,19 +161,30 @@ fn numeral(word: &[u8]) -> Option<Value>
 
 // The number of 64 bits that the word spells.
 fn number(word: &[u8]) -> Option<i64>
-    ensures found { IfSome result (λ n. SpellsNumber word.now n × IsTrue (fits n)) }
-    ensures none { IfNone result ((z : ℤ) → SpellsNumber word.now z → IsTrue (fits z) → ⊥) }
+    ensures { result ≡ spec.number_in word.now }
 {
-    if word.is_empty() || word[0] == b'+' {
+    match after_mark(word, b'-') {
+        Some(digits) => 0i64.checked_sub_unsigned(size(digits)?),
+        None => 0i64.checked_add_unsigned(size(word)?),
+    }
+}
+
+// The number that decimal digits write, where it is below 2^64.
+fn size(digits: &[u8]) -> Option<u64>
+    ensures found { IfSome result (λ n. IsTrue (spec.is_numeral digits.now) × (n ≡ digits_value 10 digits.now)) }
+    ensures none { IfNone result (IsTrue (spec.is_numeral digits.now) → 2 ^ 64 ≤ digits_value 10 digits.now) }
+{
+    if digits.is_empty() {
         return None;
     }
-    let Ok(digits) = str::from_utf8(word) else {
-        return None;
-    };
-    match digits.parse::<i64>() {
-        Ok(n) => Some(n),
-        Err(_) => None,
+    let mut n: u64 = 0;
+    for digit in digits {
+        if !digit.is_ascii_digit() {
+            return None;
+        }
+        n = n.checked_mul(10)?.checked_add(u64::from(*digit - b'0'))?;
     }
+    Some(n)
 }
 
 // The name of this enumeration that the word is.
