@@ -1,5 +1,5 @@
 -- An action's text begins with its name.
-use Rattle.std.proofs.Common.{◌≡◌, ℕ, List, [], ◌∷◌, Bool, true, false, MatchBool, ◌<◌, length, IsTrue, Result, Ok, Err, IfOk, refl, sym, ap, subst, ◌∙◌, arith}
+use Rattle.std.proofs.Common.{◌≡◌, ℕ, List, [], ◌∷◌, Bool, true, false, MatchBool, ◌<◌, length, IsTrue, IsUtf8, Result, Ok, Err, IfOk, refl, sym, ap, ap₂, subst, ◌∙◌, arith}
 use Rattle.ioa_value.specs.Plain.{Val}
 use Rattle.ioa_value.specs.Table.{Table}
 use Rattle.ioa_value.specs.Actions.{Act}
@@ -7,7 +7,7 @@ use Rattle.ioa_value.specs.Names.{IsName}
 use Rattle.ioa_value.specs.Reads.{Padded, Reads, ReadsValues, ReadsArguments}
 use Rattle.ioa_value.specs.Tokens.{first_word, after_first}
 use Rattle.ioa_value.proofs.TokenLemmas.{IsEnd, finds_word, finds_rest, front}
-use Rattle.ioa_value.proofs.SpellLemmas.{name_is_word}
+use Rattle.ioa_value.proofs.SpellLemmas.{name_is_word, name_is_text}
 
 ends : (types : Table) (rest : List ℕ) (vs : List Val) → ReadsArguments types rest vs → IsEnd rest
 ends types rest [] e = subst IsEnd (sym e) (record { no_blank = refl; no_word = refl; stays = refl })
@@ -34,6 +34,24 @@ unfolding Reads
 reads types text a n e r =
     let f = front text in
     (n, (f.0, after_first text, subst (λ w. Padded w f.0) e f.1, r, f.2))
+
+-- where the name is the first word, and the values are read after it, the action is read, and no other
+pub renamed : {E : Type 0} (types : Table) (text w : List ℕ) (b : Act) (r : Result Bool E) → IsName w → first_word text ≡ w → ReadsArguments types (after_first text) b.vals
+    → IfOk r (λ t. MatchBool t (b.name ≡ w) (IsUtf8 w → ⊥))
+    → IfOk r (λ t. MatchBool t (Reads types text b) ((a : Act) → Reads types text a → ⊥))
+renamed types text w b (Ok true) n e args h = reads types text b (subst IsName (sym h) n) (e ∙ sym h) args
+renamed types text w b (Ok false) n e args h = absurd (h (name_is_text w n))
+renamed types text w b (Err f) n e args h = tt
+
+same_act : (a b : Act) → b.name ≡ a.name → b.vals ≡ a.vals → b ≡ a
+same_act a b p q = ap₂ (λ x y. record { name = x; vals = y }) p q
+
+pub only_renamed : {E : Type 0} (w : List ℕ) (a b : Act) (r : Result Bool E) → IsName w → w ≡ a.name → b.vals ≡ a.vals
+    → IfOk r (λ t. MatchBool t (b.name ≡ w) (IsUtf8 w → ⊥))
+    → IfOk r (λ t. IsTrue t × (b ≡ a))
+only_renamed w a b (Ok true) n e args h = (refl, same_act a b (h ∙ e) args)
+only_renamed w a b (Ok false) n e args h = absurd (h (name_is_text w n))
+only_renamed w a b (Err f) n e args h = tt
 
 -- what follows a `(` is all that arguments can be
 pub inner : (types : Table) (rest : List ℕ) (vs : List Val) → ReadsArguments types (40 ∷ rest) vs → ReadsValues types rest vs

@@ -154,7 +154,7 @@ fitted None z h = go (fits z) refl
     go false e = refl
 
 -- the word spells the number, if these are digits
-abbrev pub Spelled : List ℕ → List ℕ → ℤ → Type 0
+abbrev Spelled : List ℕ → List ℕ → ℤ → Type 0
 Spelled w ds z = spelled_number w ≡ cond (is_numeral ds) (Some z) None
 
 behind_minus : (w ds : List ℕ) → w ≡ 45 ∷ ds → Spelled w ds (neg_ℤ (pos (digits_value 10 ds)))

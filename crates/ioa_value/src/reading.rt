@@ -1,6 +1,6 @@
 //! Texts read as actions, however their blanks and their leading zeros stand.
 
-ghost use Rattle.std.specs.Prelude.{◌≡◌, List, [], IsTrue, MatchBool, IfSome, IfNone, IfOk, IsSomeAnd, map};
+ghost use Rattle.std.specs.Prelude.{◌≡◌, List, [], IsTrue, MatchBool, IfSome, IfNone, IfOk, IsSomeAnd, map, string_bytes, IsUtf8};
 ghost use Rattle.ioa_value.specs.Plain.{Val, plain};
 ghost use Rattle.ioa_value.specs.Actions.{Act, act_of};
 ghost use Rattle.ioa_value.specs.Reads.{Reads, ReadsArguments, ReadsValues};
@@ -45,17 +45,28 @@ impl Action {
         if !is_name(front.word) {
             return Ok(false);
         }
-        let Ok(name) = str::from_utf8(front.word) else {
-            return Ok(false);
-        };
         self.vals.clear();
         if !read_arguments(alloc, types, front.rest, &mut self.vals)? {
             return Ok(false);
         }
-        self.name.clear();
-        self.name.push_str(name)?;
-        Ok(true)
+        rename(&mut self.name, front.word)
     }
+}
+
+/// Whether the word is text, which then stands in place of the name. In a list the next action
+/// often has the name of the last: the same text is not written again.
+fn rename(name: &mut String, word: &[u8]) -> Result<bool, OutOfMemory>
+    ensures { IfOk result (λ r. MatchBool r (string_bytes name.new ≡ word.now) (IsUtf8 word.now → ⊥)) }
+{
+    if name.as_bytes() == word {
+        return Ok(true);
+    }
+    let Ok(text) = str::from_utf8(word) else {
+        return Ok(false);
+    };
+    name.clear();
+    name.push_str(text)?;
+    Ok(true)
 }
 
 /// The values in parentheses, or none where the text is empty, put into an empty list.
