@@ -1,14 +1,13 @@
 //! Values at the front of a text. The first word tells of which type a value is.
 
-ghost use Rattle.std.specs.Prelude.{◌≡◌, ◌<◌, ◌≤◌, ◌^◌, All, Some, None, IsTrue, IfSome, IfNone, IfOk, if◌then◌else◌, length, map, drop, slice_get};
+ghost use Rattle.std.specs.Prelude.{◌≡◌, ℕ, ◌<◌, ◌≤◌, ◌^◌, List, All, Some, None, IsTrue, IfSome, IfNone, IfOk, if◌then◌else◌, length, map, drop, slice_get};
 ghost use Rattle.std.specs.Option.{option_map};
 ghost use Rattle.std.specs.Str.{bytes_eq};
 ghost use Rattle.std.specs.Str.Parse.{digits_value};
 ghost use Rattle.ioa_value.specs.Plain.{number as number_of_type, plain, plain_all, num as plain_num, none};
 ghost use Rattle.ioa_value.specs.Table.{AreTypes, Shape, type_name};
 ghost use Rattle.ioa_value.specs.Shapes.{shape};
-ghost use Rattle.ioa_value.specs.Fronts.{front_of, row_of};
-ghost use Rattle.ioa_value.specs.Tokens as tokens;
+ghost use Rattle.ioa_value.specs.Fronts.{Splits, front_of, row_of};
 ghost use Rattle.ioa_value.specs.Scanning as spec;
 
 use crate::memory::OutOfMemory;
@@ -40,23 +39,23 @@ pub(crate) fn first_value<'a>(
     ensures value { IfOk result (λ r. option_map front_of r ≡ spec.scan_value types.now text.now) }
     ensures types { AreTypes types.now }
 {
-    let ty = types.leading(first_word(text).word);
-    value_of_type(alloc, types, ty, text)
+    let front = first_word(text);
+    let ty = types.leading(front.word);
+    value_of_type(alloc, types, ty, front)
 }
 
-// The value of the type at the front of the text.
+// The value of the type whose first word is split off.
 #[cycle(scanning)]
 fn value_of_type<'a>(
     alloc: Global,
     types: &Types,
     ty: Ty,
-    text: &'a [u8],
+    front: Split<'a>,
 ) -> Result<Option<Front<'a>>, OutOfMemory>
     requires { ty.0 < length types.now }
-    ensures value { IfOk result (λ r. option_map front_of r ≡ spec.scan_of types.now ty.0 text.now) }
+    ensures value { (text : List ℕ) → Splits front.entry text → IfOk result (λ r. option_map front_of r ≡ spec.scan_of types.now ty.0 text) }
     ensures types { AreTypes types.now }
 {
-    let front = first_word(text);
     let Some(form) = types.form(ty) else {
         return Ok(None);
     };
@@ -64,25 +63,25 @@ fn value_of_type<'a>(
         Form::Truths => Ok(at_word(truth(front.word), front)),
         Form::Numbers => Ok(at_word(numeral(front.word), front)),
         Form::Names(_) => Ok(at_word(constant(types, ty, front.word), front)),
-        Form::Fields(_) => composite(alloc, types, ty, form, text),
-        Form::Sequence(_, _) => composite(alloc, types, ty, form, text),
+        Form::Fields(_) => composite(alloc, types, ty, form, front),
+        Form::Sequence(_, _) => composite(alloc, types, ty, form, front),
     }
 }
 
-// The tuple or the sequence at the front of the text: the type's name, and the values in marks.
+// The tuple or the sequence whose first word is split off: the type's name, and the values in marks.
 #[cycle(scanning)]
 fn composite<'a>(
     alloc: Global,
     types: &Types,
     ty: Ty,
     form: &Form,
-    text: &'a [u8],
+    front: Split<'a>,
 ) -> Result<Option<Front<'a>>, OutOfMemory>
     requires own { ty.0 < length types.now }
     requires earlier { All (λ t. t < ty.0) (spec.row_types (shape form.now)) }
-    ensures { IfOk result (λ r. option_map front_of r ≡ spec.scan_made (spec.scan_of types.now) types.now ty.0 (shape form.now) text.now) }
+    ensures { (text : List ℕ) → Splits front.entry text → IfOk result (λ r. option_map front_of r ≡ spec.scan_made (spec.scan_of types.now) types.now ty.0 (shape form.now) text) }
 {
-    let Some(inner) = opened(types, ty, form, text) else {
+    let Some(inner) = opened(types, ty, form, front) else {
         return Ok(None);
     };
     let Some(row) = row_of_values(alloc, types, ty, form, inner)? else {
@@ -113,7 +112,7 @@ fn row_of_values<'a>(
         let Some(next) = type_at(form, values.len()) else {
             return Ok(None);
         };
-        let Some(front) = value_of_type(alloc, types, next, rest)? else {
+        let Some(front) = value_of_type(alloc, types, next, first_word(rest))? else {
             return Ok(None);
         };
         values.push(front.value)?;
@@ -199,12 +198,11 @@ fn constant(types: &Types, ty: Ty, word: &[u8]) -> Option<Value>
 }
 
 // What follows the type's name and the opening mark.
-fn opened<'a>(types: &Types, ty: Ty, form: &Form, text: &'a [u8]) -> Option<&'a [u8]>
+fn opened<'a>(types: &Types, ty: Ty, form: &Form, front: Split<'a>) -> Option<&'a [u8]>
     requires { ty.0 < length types.now }
     ensures { option_map (λ rest. rest.now) result
-        ≡ (if bytes_eq (tokens.first_word text.now) (type_name types.now ty.0) then spec.after_mark (spec.opening (shape form.now)) (tokens.after_first text.now) else None) }
+        ≡ (if bytes_eq front.entry.word.now (type_name types.now ty.0) then spec.after_mark (spec.opening (shape form.now)) front.entry.rest.now else None) }
 {
-    let front = first_word(text);
     let declared = types.declared(ty)?;
     if front.word != declared.name.as_bytes() {
         return None;
