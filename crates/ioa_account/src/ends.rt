@@ -22,7 +22,7 @@ ghost use Rattle.ioa_account.specs.Accounts.{IsAccount, AccountsFor, TellsLine};
 use crate::states::{is_down, put_component};
 use ioa_compile::Program;
 use ioa_compose::Composition;
-use ioa_flat::NodeState;
+use ioa_node::NodeState;
 use ioa_system::{End, Participation, Run, owner, run_list};
 use ioa_tree::Transition;
 use ioa_value::{Action, Fault, OutOfMemory, Types, print_action};

@@ -12,7 +12,7 @@ ghost use Rattle.ioa_inspect.specs.Breaking.{AreStates, IsState};
 ghost use Rattle.ioa_account.specs.Faults as spec;
 
 use ioa_compose::Composition;
-use ioa_flat::{NodeState, state_values};
+use ioa_node::{NodeState, state_values};
 use ioa_value::{Fault, OutOfMemory, Value};
 use std::alloc::Global;
 

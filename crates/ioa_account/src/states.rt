@@ -13,7 +13,7 @@ ghost use Rattle.ioa_picture.specs.Lines.{numbered};
 ghost use Rattle.ioa_account.specs.States as spec;
 
 use ioa_compose::{Composition, Member};
-use ioa_flat::{NodeState, state_values};
+use ioa_node::{NodeState, state_values};
 use ioa_value::{OutOfMemory, Types, Value, push_value};
 use std::alloc::Global;
 use std::fmt::Write;

@@ -16,7 +16,7 @@ use Rattle.ioa_system.specs.Outcomes.{moved_of}
 use Rattle.ioa_system.specs.Found.{AreParticipants, component_of, components_of}
 use Rattle.ioa_system.specs.Participants.{renumbered, step_from}
 use Rattle.std.specs.Global.{Vec}
-use Rattle.ioa_node.specs.Nodes.{Node}
+use Rattle.ioa_parts.specs.Nodes.{Node}
 use Rattle.ioa_system.specs.Systems.{values_of}
 use Rattle.ioa_board.specs.ProgramPlans.{IsUsable, ProgramPlan, foreseen}
 

@@ -10,7 +10,7 @@ use Rattle.ioa_value.specs.Actions.{Act}
 use Rattle.ioa_value.specs.Plain.{Val}
 use Rattle.ioa_value.specs.Table.{Table}
 use Rattle.ioa_value.proofs.ItemLemmas.{at_map, item_there}
-use Rattle.ioa_node.specs.Nodes.{Node}
+use Rattle.ioa_parts.specs.Nodes.{Node}
 use Rattle.ioa_tree.specs.Components.{Component}
 use Rattle.ioa_tree.specs.Steps.{participants_from, participants}
 use Rattle.ioa_system.specs.Participants.{taken, put_back}

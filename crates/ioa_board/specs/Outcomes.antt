@@ -9,7 +9,7 @@ use Rattle.ioa_system.specs.Logs.{log_end, log_entry}
 use Rattle.ioa_system.specs.Systems.{values_of}
 use Rattle.ioa_system.specs.declared.log.LogEnd.{LogEnd}
 use Rattle.ioa_system.specs.declared.log.LogEntry.{LogEntry}
-use Rattle.ioa_node.specs.Nodes.{Node}
+use Rattle.ioa_parts.specs.Nodes.{Node}
 use Rattle.ioa_board.specs.Boards.{Failure, IsSound, Standing}
 use Rattle.ioa_board.specs.Histories.{acts_of}
 use Rattle.ioa_board.specs.Reports.{counted}

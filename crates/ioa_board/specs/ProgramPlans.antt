@@ -2,7 +2,7 @@
 use Rattle.std.specs.Prelude.{◌≡◌, ℕ, List, refl}
 use Rattle.std.specs.Coded.{Coded, code_by, coded×, coded_ℕ}
 use Rattle.ioa_value.specs.Plain.{Val}
-use Rattle.ioa_node.specs.Nodes.{Node}
+use Rattle.ioa_parts.specs.Nodes.{Node}
 use Rattle.ioa_tree.specs.Steps as steps
 use Rattle.ioa_tree.specs.Steps.{participants}
 use Rattle.ioa_compile.specs.Programs.{Prog}

@@ -10,7 +10,7 @@ use crate::board::Board;
 use crate::planned::Planned;
 use crate::planning::plan_now;
 use ioa_compile::Program;
-use ioa_flat::NodeState;
+use ioa_node::NodeState;
 use ioa_system::{Participation, Step, Stepper};
 use ioa_value::{Action, OutOfMemory};
 use std::alloc::Global;

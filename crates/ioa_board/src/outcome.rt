@@ -1,7 +1,7 @@
 //! Outcomes: what is left of a run once no worker takes a turn any more.
 
 use crate::report::Report;
-use ioa_flat::NodeState;
+use ioa_node::NodeState;
 use ioa_system::{LogEnd, LogEntry};
 
 /// What a run gives.

@@ -14,7 +14,7 @@ ghost use Rattle.ioa_board.specs.Planning.{Assesses, Makes};
 use crate::assessed::Assessed;
 use crate::planned::Planned;
 use ioa_compile::Program;
-use ioa_flat::NodeState;
+use ioa_node::NodeState;
 use ioa_system::{LogEntry, Moved, Participation};
 use ioa_value::{Action, Fault, OutOfMemory};
 use std::alloc::Global;

@@ -11,7 +11,7 @@ use crate::assessed::Assessed;
 use crate::board::Board;
 use crate::plan::{assess, plan_by};
 use crate::planned::Planned;
-use ioa_flat::NodeState;
+use ioa_node::NodeState;
 use ioa_system::Participation;
 use ioa_value::{Action, OutOfMemory};
 use std::alloc::Global;

@@ -21,8 +21,8 @@ use Rattle.ioa_code.specs.Valid.{Part}
 use Rattle.ioa_code.proofs.Ends.{outcome_is_end}
 use Rattle.ioa_code.proofs.Remaining.{ends_within}
 use Rattle.ioa_code.specs.declared.instr.PartKind.{PartKind}
-use Rattle.ioa_node.specs.Runs as runs
-use Rattle.ioa_node.specs.Runs.{no_words, start, guard_answer, guard_of, effect_answer, effect_of}
+use Rattle.ioa_parts.specs.Runs as runs
+use Rattle.ioa_parts.specs.Runs.{no_words, start, guard_answer, guard_of, effect_answer, effect_of}
 use Rattle.ioa_tree.specs.declared.tree.Kind.{Kind}
 use Rattle.ioa_tree.specs.declared.tree.Kind.TheVariants.{Input, Output, Internal}
 use Rattle.ioa_tree.specs.Tree.{Expr, Stmts, EntryTree, TransitionTree}

@@ -12,8 +12,8 @@ use Rattle.ioa_code.specs.declared.instr.PartKind.TheVariants.{Pre}
 use Rattle.ioa_code.specs.Machine.{Listing}
 use Rattle.ioa_code.specs.Valid.{Part, Valid}
 use Rattle.ioa_code.specs.Parts.{listing}
-use Rattle.ioa_node.specs.Nodes.{Node}
-use Rattle.ioa_node.specs.Runs.{guard_of}
+use Rattle.ioa_parts.specs.Nodes.{Node}
+use Rattle.ioa_parts.specs.Runs.{guard_of}
 use Rattle.ioa_tree.specs.Tree.{Expr, FieldTree, InvariantTree}
 use Rattle.ioa_tree.specs.Meaning.{Env, or_else, over}
 use Rattle.ioa_tree.specs.Instances.{formal_values, field_names, state_of, variable_names, truth_of}

@@ -3,7 +3,7 @@ use Rattle.std.proofs.Common.{◌≡◌, ℕ, suc, ◌+◌, List, [], ◌∷◌,
 use Rattle.std.specs.Prelude.{slice_get}
 use Rattle.std.specs.List.{AllZip}
 use Rattle.ioa_value.specs.Typing.{HaveTypes}
-use Rattle.ioa_node.specs.Nodes.{Node}
+use Rattle.ioa_parts.specs.Nodes.{Node}
 use Rattle.ioa_tree.specs.Tree.{EntryTree}
 use Rattle.ioa_tree.specs.Instances.{component_of, state_of}
 use Rattle.ioa_tree.specs.Compositions.{Member}

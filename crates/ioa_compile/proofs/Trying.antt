@@ -12,7 +12,7 @@ use Rattle.ioa_code.specs.Picks.{number_picked, value_of}
 use Rattle.ioa_code.specs.Bound.{bound}
 use Rattle.ioa_code.specs.Valid.{Part}
 use Rattle.ioa_code.proofs.Lists.{on_top-append}
-use Rattle.ioa_node.specs.Proposals.{proposing}
+use Rattle.ioa_parts.specs.Proposals.{proposing}
 use Rattle.ioa_tree.specs.Tree.{FieldTree, PositionTree, typed, only, ChoiceTree, exactly, any_below, ProposalTree}
 use Rattle.ioa_tree.specs.Answers.{Suits}
 use Rattle.ioa_tree.specs.Meaning.{Env, val}

@@ -3,7 +3,7 @@ use Rattle.std.specs.Prelude.{◌≡◌, ℕ, List, [], ◌∷◌, Option, Some,
 use Rattle.ioa_value.specs.Plain.{Val}
 use Rattle.ioa_code.specs.declared.instr.PartKind.TheVariants.{Pre}
 use Rattle.ioa_code.specs.Valid.{Part}
-use Rattle.ioa_node.specs.Nodes.{Node}
+use Rattle.ioa_parts.specs.Nodes.{Node}
 use Rattle.ioa_tree.specs.Tree.{Expr}
 use Rattle.ioa_tree.specs.Meaning.{Env, over, val}
 use Rattle.ioa_tree.specs.Instances.{formal_values, state_of}

@@ -5,8 +5,8 @@ use Rattle.ioa_value.specs.Operators.{Answer, gives, faults, nothing}
 use Rattle.ioa_value.specs.Plain.{Val, truth}
 use Rattle.ioa_code.specs.Machine.{State, done, fault, idle}
 use Rattle.ioa_code.specs.Valid.{Part}
-use Rattle.ioa_node.specs.Proposals.{proposing}
-use Rattle.ioa_node.specs.Runs.{Comes, start}
+use Rattle.ioa_parts.specs.Proposals.{proposing}
+use Rattle.ioa_parts.specs.Runs.{Comes, start}
 use Rattle.ioa_value.specs.Table.{Table}
 use Rattle.ioa_tree.specs.Tree.{Expr}
 use Rattle.ioa_tree.specs.Meaning.{Env, val, Outcome, becomes, breaks, nowhere, kept}

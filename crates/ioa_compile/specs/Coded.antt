@@ -7,8 +7,8 @@ use Rattle.ioa_value.specs.Coded.{coded_domain, coded_table}
 use Rattle.ioa_value.specs.Positions.{Domain}
 use Rattle.ioa_code.specs.Coded.{coded_part}
 use Rattle.ioa_code.specs.Valid.{Part}
-use Rattle.ioa_node.specs.Coded.{coded_node}
-use Rattle.ioa_node.specs.Nodes.{Node}
+use Rattle.ioa_parts.specs.Coded.{coded_node}
+use Rattle.ioa_parts.specs.Nodes.{Node}
 use Rattle.ioa_tree.specs.declared.tree.Kind.{Kind}
 use Rattle.ioa_tree.specs.contracts.tree.Kind as kinds
 use Rattle.ioa_emit.specs.CodedScopes.{coded_name}

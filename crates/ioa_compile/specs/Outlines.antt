@@ -7,7 +7,7 @@ use Rattle.ioa_value.specs.Plain.{Val}
 use Rattle.ioa_value.specs.Positions.{Domain}
 use Rattle.ioa_code.specs.declared.instr.Instr.{Instr}
 use Rattle.ioa_code.specs.Valid.{Part}
-use Rattle.ioa_node.specs.Nodes.{Node}
+use Rattle.ioa_parts.specs.Nodes.{Node}
 use Rattle.ioa_tree.specs.declared.tree.Kind.{Kind}
 use Rattle.ioa_compile.specs.declared.table.Entry.{Entry}
 use Rattle.ioa_compile.specs.declared.table.Member.{Member}

@@ -4,7 +4,7 @@ use Rattle.ioa_value.specs.Actions.{Name}
 use Rattle.ioa_value.specs.Positions.{Domain}
 use Rattle.ioa_value.specs.Table.{Table}
 use Rattle.ioa_code.specs.Valid.{Part}
-use Rattle.ioa_node.specs.Nodes.{Node}
+use Rattle.ioa_parts.specs.Nodes.{Node}
 use Rattle.ioa_tree.specs.declared.tree.Kind.{Kind}
 
 -- an entry: the values that stand in its positions, and the code of its precondition and of its proposals, where it is locally

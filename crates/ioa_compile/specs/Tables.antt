@@ -15,7 +15,7 @@ use Rattle.ioa_code.specs.declared.instr.PartKind.{PartKind}
 use Rattle.ioa_code.specs.declared.instr.PartKind.TheVariants.{Pre, Propose, Eff}
 use Rattle.ioa_code.specs.Parts.{IsVerified}
 use Rattle.ioa_code.specs.Valid.{Part}
-use Rattle.ioa_node.specs.Runs.{guard_of, effect_of}
+use Rattle.ioa_parts.specs.Runs.{guard_of, effect_of}
 use Rattle.ioa_tree.specs.declared.tree.Kind.{Kind}
 use Rattle.ioa_tree.specs.declared.tree.Kind.TheVariants.{Input, Output, Internal}
 use Rattle.ioa_tree.specs.Components.{Component, Compatible, is_output}

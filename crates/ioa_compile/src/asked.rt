@@ -22,7 +22,7 @@ use crate::types::variable_types;
 use ioa_code::{Code, PartKind};
 use ioa_compose::{Composition, Member};
 use ioa_emit::{Scope, emit_expression};
-use ioa_flat::{Decoded, NodeState, enabled};
+use ioa_node::{Decoded, NodeState, enabled};
 use ioa_tree::Expression;
 use ioa_value::{OutOfMemory, Ty};
 use ioa_words::Layout;

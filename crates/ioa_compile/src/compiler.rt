@@ -16,7 +16,7 @@ use crate::program::Program;
 use crate::table::Member;
 use crate::types::variable_types;
 use ioa_compose::{Composition, Member as MemberTree};
-use ioa_flat::from_values;
+use ioa_node::from_values;
 use ioa_value::OutOfMemory;
 use ioa_words::Layout;
 use std::alloc::Global;

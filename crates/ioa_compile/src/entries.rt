@@ -27,7 +27,7 @@ use ioa_code::{Code, CodeErr, Env, PartKind, verify};
 use ioa_compose::Member;
 use ioa_decode::decode_code;
 use ioa_emit::Scope;
-use ioa_flat::Decoded;
+use ioa_node::Decoded;
 use ioa_tree::{Automaton, Entry as EntryTree, Transition};
 use ioa_value::{OutOfMemory, Position, Ty, Types};
 use ioa_words::Layout;

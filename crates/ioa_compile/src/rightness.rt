@@ -23,7 +23,7 @@ use crate::tables::Tables;
 use crate::types::{parameter_types, position_types};
 use ioa_code::{PartKind, Verified};
 use ioa_compose::COMPONENT_LIMITS;
-use ioa_flat::Decoded;
+use ioa_node::Decoded;
 use ioa_tree::Kind;
 use ioa_value::{LIMITS, OutOfMemory, Position, Ty, Types, Value, has_type, is_name};
 use std::alloc::Global;

@@ -6,7 +6,7 @@ ghost use Rattle.std.specs.Option.{option_map};
 use crate::program::Program;
 use crate::table::{Entry, Member};
 use ioa_code::Instr;
-use ioa_flat::{Decoded, NodeState};
+use ioa_node::{Decoded, NodeState};
 use ioa_value::{Declared, Field, Form, Op, Position, Ty, Types, Value, same};
 
 impl Program {
@@ -263,7 +263,7 @@ impl Alike for Decoded {
 }
 
 impl Alike for NodeState {
-    ghost use Rattle.ioa_node.specs.Nodes.{Node};
+    ghost use Rattle.ioa_parts.specs.Nodes.{Node};
 
     ghost Part = { Node };
 

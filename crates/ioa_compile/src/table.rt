@@ -1,6 +1,6 @@
 //! The tables of a program.
 
-use ioa_flat::{Decoded, NodeState};
+use ioa_node::{Decoded, NodeState};
 use ioa_tree::Kind;
 use ioa_value::Position;
 

@@ -8,7 +8,7 @@ use crate::coverage::has;
 use crate::effects::follow_all;
 use crate::environment::environment;
 use ioa_compile::{Entry, Member};
-use ioa_flat::{NodeState, state_values};
+use ioa_node::{NodeState, state_values};
 use ioa_tree::{Automaton, Entry as Declared, Statement};
 use ioa_value::{Action, OutOfMemory, Types, Value};
 use std::alloc::Global;

@@ -9,7 +9,7 @@ ghost use Rattle.ioa_coverage.specs.Following.{with_marks};
 
 use crate::effect::Effect;
 use ioa_compile::Program;
-use ioa_flat::NodeState;
+use ioa_node::NodeState;
 use ioa_system::{LogEntry, Step, System};
 use ioa_value::{Action, OutOfMemory};
 use std::alloc::Global;

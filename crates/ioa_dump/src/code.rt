@@ -8,7 +8,7 @@ ghost use Rattle.ioa_dump.specs.Dumps as spec;
 
 use crate::values::{brief_value, type_in, type_name};
 use ioa_code::{Instr, Verified};
-use ioa_flat::Decoded;
+use ioa_node::Decoded;
 use ioa_value::{Op, OutOfMemory, Types, Value};
 use std::alloc::Global;
 use std::fmt::Write;

@@ -11,7 +11,7 @@ ghost use Rattle.ioa_dump.specs.Dumps as spec;
 use crate::code::{put_local, put_part};
 use crate::values::{put_values, type_name, typed_value};
 use ioa_compile::{Entry, Member};
-use ioa_flat::state_values;
+use ioa_node::state_values;
 use ioa_tree::Kind;
 use ioa_value::{OutOfMemory, Position, Types};
 use std::alloc::Global;

@@ -8,7 +8,7 @@ use Rattle.ioa_value.specs.Actions.{Act, Name}
 use Rattle.ioa_value.specs.Plain.{Val}
 use Rattle.ioa_value.proofs.ItemLemmas.{image_at}
 use Rattle.ioa_code.specs.Valid.{Part}
-use Rattle.ioa_node.specs.Proposals.{proposal_of}
+use Rattle.ioa_parts.specs.Proposals.{proposal_of}
 use Rattle.ioa_compile.specs.Programs.{EntryCode}
 use Rattle.ioa_run.specs.Proposers.{action_with}
 use Rattle.ioa_enabled.specs.Sampled.{NeverAgain, HasWays, all_by_word, both, by_count, by_word, each_word, named, sampled, sampled_at, sampled_by}

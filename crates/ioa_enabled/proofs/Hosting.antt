@@ -11,7 +11,7 @@ use Rattle.ioa_value.specs.Table.{AreTypes}
 use Rattle.ioa_value.specs.Typing.{HaveTypes}
 use Rattle.ioa_value.proofs.ItemLemmas.{get_append, image_at}
 use Rattle.ioa_code.specs.Valid.{Part}
-use Rattle.ioa_node.specs.Proposals.{proposal_of, words_of}
+use Rattle.ioa_parts.specs.Proposals.{proposal_of, words_of}
 use Rattle.ioa_tree.specs.declared.tree.Kind.{Kind}
 use Rattle.ioa_tree.specs.declared.tree.Kind.TheVariants.{Input, Output, Internal}
 use Rattle.ioa_tree.specs.Components.{Component, is_local, owns}

@@ -2,7 +2,7 @@
 use Rattle.std.specs.Prelude.{◌≡◌, ◌%◌, ◌/◌, ℕ, zero, suc, Bool, List, [], ◌∷◌, Option, Some, None, length, map, nat_lt, slice_get}
 use Rattle.ioa_value.specs.Actions.{Name, act_of}
 use Rattle.ioa_value.specs.Plain.{Val}
-use Rattle.ioa_node.specs.Nodes.{Node}
+use Rattle.ioa_parts.specs.Nodes.{Node}
 use Rattle.ioa_compile.specs.Programs.{MemberCode}
 use Rattle.ioa_compile.specs.Tables.{AreEntries, table_component}
 use Rattle.ioa_run.specs.Choices.{AreOfState}

@@ -5,7 +5,7 @@ use Rattle.std.specs.Option.{option_and_then, option_map}
 use Rattle.ioa_value.specs.Actions.{Act, Name}
 use Rattle.ioa_value.specs.Plain.{Val}
 use Rattle.ioa_code.specs.Valid.{Part}
-use Rattle.ioa_node.specs.Proposals.{proposal_of}
+use Rattle.ioa_parts.specs.Proposals.{proposal_of}
 use Rattle.ioa_tree.specs.Proposing.{Words}
 use Rattle.ioa_compile.specs.Programs.{EntryCode}
 use Rattle.ioa_run.specs.Proposers.{action_with}

@@ -4,7 +4,7 @@ ghost use Rattle.std.specs.Prelude.{◌≡◌, ◌<◌, ◌%◌, ℕ, List, Some
 ghost use Rattle.std.specs.Option.{option_map, option_map_or};
 ghost use Rattle.ioa_value.specs.Plain.{plain};
 ghost use Rattle.ioa_value.specs.Same as equal;
-ghost use Rattle.ioa_node.specs.Proposals.{values_in};
+ghost use Rattle.ioa_parts.specs.Proposals.{values_in};
 ghost use Rattle.ioa_compile.specs.Shown.{entry_code};
 ghost use Rattle.ioa_run.specs.Choices.{IsOfState};
 ghost use Rattle.ioa_enabled.specs.Sampled.{NeverAgain, HasWays, sampled_at, shown};
@@ -12,7 +12,7 @@ ghost use Rattle.ioa_enabled.specs.Ways.{Values, total};
 
 use crate::samples::sampled;
 use ioa_compile::Entry;
-use ioa_flat::{NodeState, Workspace};
+use ioa_node::{NodeState, Workspace};
 use ioa_value::{OutOfMemory, Value, same};
 use std::alloc::Global;
 

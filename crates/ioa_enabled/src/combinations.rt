@@ -2,7 +2,7 @@
 
 ghost use Rattle.std.specs.Prelude.{◌≡◌, IfOk, map};
 ghost use Rattle.std.specs.Option.{option_map};
-ghost use Rattle.ioa_node.specs.Proposals.{values_in};
+ghost use Rattle.ioa_parts.specs.Proposals.{values_in};
 ghost use Rattle.ioa_enabled.specs.Offers.{picked};
 
 use ioa_value::{OutOfMemory, Value};

@@ -10,7 +10,7 @@ ghost use Rattle.ioa_system.specs.Systems.{slots_of};
 ghost use Rattle.ioa_enabled.specs.Ways as spec;
 
 use ioa_compile::{Entry, Member};
-use ioa_flat::{NodeState, Workspace, enabled_with};
+use ioa_node::{NodeState, Workspace, enabled_with};
 use ioa_value::{Action, OutOfMemory, all_take};
 
 /// Whether the action is enabled in this state of the component.

@@ -17,7 +17,7 @@ use crate::part::Part;
 use crate::telling::put_part;
 use ioa_compile::Program;
 use ioa_compose::Composition;
-use ioa_flat::NodeState;
+use ioa_node::NodeState;
 use ioa_value::OutOfMemory;
 use std::alloc::Global;
 

@@ -2,7 +2,7 @@
 
 ghost use Rattle.std.specs.Prelude.{◌≡◌, ◌<◌, ◌+◌, ◌^◌, ℕ, List, IfOk, IfSome, map};
 ghost use Rattle.ioa_compile.specs.Shown.{entry_code, member_code};
-ghost use Rattle.ioa_node.specs.Proposals.{values_in};
+ghost use Rattle.ioa_parts.specs.Proposals.{values_in};
 ghost use Rattle.ioa_run.specs.Choices.{IsOfState};
 ghost use Rattle.ioa_enabled.specs.Offers.{IsPlaced, TellsOffer};
 ghost use Rattle.ioa_enabled.specs.Sampled.{HasWays, shown};
@@ -12,7 +12,7 @@ use crate::columns::columns;
 use crate::combinations::combination;
 use crate::guards::is_enabled;
 use ioa_compile::{Entry, Member};
-use ioa_flat::{NodeState, Workspace};
+use ioa_node::{NodeState, Workspace};
 use ioa_value::{Action, OutOfMemory, Value};
 use std::alloc::Global;
 

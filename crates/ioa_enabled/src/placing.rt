@@ -8,7 +8,7 @@ ghost use Rattle.ioa_system.specs.Systems.{slots_of};
 ghost use Rattle.ioa_enabled.specs.Placed.{AreOfMember};
 
 use ioa_compile::Member;
-use ioa_flat::{NodeState, from_values};
+use ioa_node::{NodeState, from_values};
 use ioa_value::{OutOfMemory, Ty, Types, Value, has_type};
 use std::alloc::Global;
 

@@ -11,8 +11,7 @@ ghost use Rattle.ioa_run.specs.Proposers.{filled};
 ghost use Rattle.ioa_enabled.specs.Sampled as spec;
 
 use ioa_compile::Entry;
-use ioa_flat::{NodeState, Workspace, propose_with};
-use ioa_node::Words;
+use ioa_node::{NodeState, Words, Workspace, propose_with};
 use ioa_value::{Action, OutOfMemory, Position, Value};
 use std::alloc::Global;
 use std::mem;

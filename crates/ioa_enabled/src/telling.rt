@@ -31,7 +31,7 @@ use crate::placing::placed;
 use crate::signatures::put_inputs;
 use ioa_compile::{Entry, Member, Program};
 use ioa_compose::Composition;
-use ioa_flat::{NodeState, Workspace, state_values};
+use ioa_node::{NodeState, Workspace, state_values};
 use ioa_value::{Action, OutOfMemory, Types, push_action};
 use std::alloc::Global;
 use std::fmt::Write;

@@ -14,7 +14,7 @@ use Rattle.ioa_code.specs.Machine.{state, Move, goes, over, idle, fault, stuck, 
 use Rattle.ioa_code.specs.Outcome.{outcome}
 use Rattle.ioa_code.specs.Valid.{Part, way, after}
 use Rattle.ioa_code.specs.Scan.{Verdict, good, bad, scan}
-use Rattle.ioa_node.specs.Proposals.{proposing, proposal_of, words_of}
+use Rattle.ioa_parts.specs.Proposals.{proposing, proposal_of, words_of}
 use Rattle.ioa_examples.proofs.SequenceOperators.{n, ty}
 
 -- type 2: red, green, blue; type 3: sequences of numbers

@@ -12,7 +12,7 @@ use Rattle.ioa_value.specs.Plain.{Val}
 use Rattle.ioa_value.proofs.ItemLemmas.{at_map, drop_item, item_there}
 use Rattle.ioa_value.specs.Table.{Table}
 use Rattle.ioa_value.proofs.RowLemmas.{drop_there}
-use Rattle.ioa_node.specs.Nodes.{Node}
+use Rattle.ioa_parts.specs.Nodes.{Node}
 use Rattle.ioa_tree.specs.Tree.{FieldTree}
 use Rattle.ioa_tree.specs.Meaning.{Env, or_else}
 use Rattle.ioa_tree.specs.Instances.{Instance, Fit, field_names, state_of}

@@ -23,7 +23,7 @@ ghost use Rattle.ioa_inspect.specs.Breaking.{AreStates, AreTyped, IsInspectionOf
 use ioa_compile::{Asked, Program, compile};
 use ioa_compose::Composition;
 use ioa_device::LogErr;
-use ioa_flat::{NodeState, state_values};
+use ioa_node::{NodeState, state_values};
 use ioa_replay::TracedJudge;
 use ioa_system::{End, Log, Run};
 use ioa_value::{OutOfMemory, Value};

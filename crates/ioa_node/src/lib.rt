@@ -1,10 +1,28 @@
-//! What a part of a component's code comes to, on values of its variables and of an action: whether a
-//! precondition holds, what an effect leaves, and what a proposal gives by words of chance. This is said
-//! of values, whatever machine runs the code, and there is none here.
+//! The state of a component as words, and the machine that runs decoded code on it: preconditions,
+//! effects and proposals. A `NodeState` keeps the words of its variables' values, so that equal states
+//! are equal words; a `Decoded` keeps verified code with the steps that stand for it.
 #![tactic(auto)]
 
-mod proposal;
-mod words;
+// States, and new words for them.
+mod draft;
+mod state;
 
-pub use proposal::Proposal;
-pub use words::Words;
+// Decoded code.
+mod decoded;
+
+// Its steps, run beside a state.
+mod drafting;
+mod reading;
+mod workspace;
+
+// Parts of code that are run.
+mod proposal;
+mod run;
+
+pub use decoded::Decoded;
+pub use draft::Draft;
+pub use ioa_parts::{Proposal, Words};
+pub use proposal::{proposal_with, propose, propose_with};
+pub use run::{draft_effect, effect, enabled, enabled_with};
+pub use state::{NodeState, from_values, state_values};
+pub use workspace::Workspace;

@@ -18,7 +18,7 @@ use ioa_bytes::{Cursor, ObjErr, value, values};
 use ioa_code::{Env, PartKind};
 use ioa_compile::{Entry, MOST_PLACES, Member, is_named, parameter_types, position_types};
 use ioa_compose::COMPONENT_LIMITS;
-use ioa_flat::from_values;
+use ioa_node::from_values;
 use ioa_tree::Kind;
 use ioa_value::{LIMITS, OutOfMemory, Position, Ty, Types, Value};
 use ioa_words::Layout;

@@ -10,7 +10,7 @@ use crate::instructions::instruction;
 use ioa_bytes::{Cursor, ObjErr};
 use ioa_code::{Code, CodeErr, Env, Instr, verify};
 use ioa_decode::decode_code;
-use ioa_flat::Decoded;
+use ioa_node::Decoded;
 use ioa_tree::Kind;
 use ioa_value::{Value, copies};
 use ioa_words::Layout;

@@ -9,7 +9,7 @@ ghost use Rattle.ioa_object.specs.Versions as spec;
 
 use ioa_code::{Instr, Verified};
 use ioa_compile::{Entry, Member};
-use ioa_flat::Decoded;
+use ioa_node::Decoded;
 
 /// The byte of the version that has the instructions of loops, or of the one that has not.
 pub(crate) fn version_byte(loops: bool) -> u8

@@ -18,7 +18,7 @@ use crate::mark::MARK;
 use crate::versions::{have_loops, version_byte};
 use ioa_code::{Instr, Verified};
 use ioa_compile::{Entry, Member, Program};
-use ioa_flat::{Decoded, state_values};
+use ioa_node::{Decoded, state_values};
 use ioa_tree::Kind;
 use ioa_value::{Declared, Field, Form, Op, OutOfMemory, Position, Ty, Types, Value};
 use std::alloc::Global;

@@ -11,7 +11,7 @@ use Rattle.ioa_value.specs.Plain.{Val}
 use Rattle.ioa_value.proofs.ItemLemmas.{image_at, item_there}
 use Rattle.ioa_value.specs.Actions.{Act}
 use Rattle.ioa_code.specs.Valid.{Part}
-use Rattle.ioa_node.specs.Proposals.{Left, proposal_of, words_of}
+use Rattle.ioa_parts.specs.Proposals.{Left, proposal_of, words_of}
 use Rattle.ioa_tree.specs.Proposing.{Words, idle}
 use Rattle.ioa_tree.specs.Components.{is_local}
 use Rattle.ioa_compile.specs.Programs.{EntryCode}

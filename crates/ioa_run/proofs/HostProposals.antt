@@ -20,8 +20,8 @@ use Rattle.ioa_code.specs.Outcome.{outcome}
 use Rattle.ioa_code.specs.Bound.{bound}
 use Rattle.ioa_code.specs.Valid.{Part}
 use Rattle.ioa_code.proofs.Ends.{computed}
-use Rattle.ioa_node.specs.Proposals.{proposed_at, proposing, words_at}
-use Rattle.ioa_node.specs.Runs.{Comes}
+use Rattle.ioa_parts.specs.Proposals.{proposed_at, proposing, words_at}
+use Rattle.ioa_parts.specs.Runs.{Comes}
 use Rattle.ioa_tree.specs.Instances.{Instance, constant_value, entry_has, formal_values, positions_have, transition_for}
 use Rattle.ioa_tree.specs.Domains.{AreDomainsOf}
 use Rattle.ioa_tree.specs.Meaning.{Env, over, val}

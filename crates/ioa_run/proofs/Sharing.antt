@@ -32,9 +32,9 @@ use Rattle.ioa_steps.specs.contracts.step.Step as Step
 use Rattle.ioa_steps.specs.contracts.trimmed.Trimmed as Trimmed
 use Rattle.ioa_steps.proofs.step.Step.TheSendSync as steps
 use Rattle.ioa_steps.proofs.trimmed.Trimmed.TheSendSync as trimmed
-use Rattle.ioa_flat.specs.contracts.decoded.Decoded as Decoded
-use Rattle.ioa_flat.specs.contracts.state.NodeState as NodeState
-use Rattle.ioa_flat.proofs.state.NodeState.TheSendSync as states
+use Rattle.ioa_node.specs.contracts.decoded.Decoded as Decoded
+use Rattle.ioa_node.specs.contracts.state.NodeState as NodeState
+use Rattle.ioa_node.proofs.state.NodeState.TheSendSync as states
 use Rattle.ioa_compile.specs.contracts.program.Program as Program
 use Rattle.ioa_sites.specs.contracts.sites.Site as Site
 use Rattle.ioa_compile.specs.contracts.table.Entry as Entry

@@ -45,7 +45,7 @@ use Rattle.ioa_compile.specs.Subjects.{HoldsIn, HoldsTyped, InSlots, RunsAs, Sta
 use Rattle.ioa_compile.specs.Tables.{AreEntries, AreMembers, HasPropose, IsEntry, IsMember, IsProgram, start_states, tabled}
 use Rattle.ioa_compile.proofs.HostEntries.{entries_are_the_hosts}
 use Rattle.ioa_compile.proofs.Subjects.{as_many, does_as, participants_as, step_as}
-use Rattle.ioa_node.specs.Nodes.{Node}
+use Rattle.ioa_parts.specs.Nodes.{Node}
 use Rattle.ioa_system.specs.Logs.{Logged, worker}
 use Rattle.ioa_system.specs.declared.log.LogEnd.{LogEnd}
 use Rattle.ioa_system.specs.declared.log.LogEntry.{LogEntry}

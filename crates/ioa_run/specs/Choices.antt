@@ -4,7 +4,7 @@ use Rattle.ioa_value.specs.Actions.{Act}
 use Rattle.ioa_value.specs.Plain.{Val}
 use Rattle.ioa_code.specs.Valid.{Part}
 use Rattle.ioa_code.specs.declared.instr.PartKind.TheVariants.{Propose}
-use Rattle.ioa_node.specs.Nodes.{Node}
+use Rattle.ioa_parts.specs.Nodes.{Node}
 use Rattle.ioa_tree.specs.Proposing.{Words}
 use Rattle.ioa_compile.specs.Programs.{EntryCode}
 use Rattle.ioa_run.specs.Proposers.{by_code, local_entries, tried}

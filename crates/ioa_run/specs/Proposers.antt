@@ -5,7 +5,7 @@ use Rattle.ioa_value.specs.Actions.{Act}
 use Rattle.ioa_value.specs.Plain.{Val}
 use Rattle.ioa_value.specs.Positions.{Domain, every, single}
 use Rattle.ioa_code.specs.Valid.{Part}
-use Rattle.ioa_node.specs.Proposals.{proposal_of, words_of}
+use Rattle.ioa_parts.specs.Proposals.{proposal_of, words_of}
 use Rattle.ioa_tree.specs.Components.{is_local}
 use Rattle.ioa_tree.specs.Compositions.{Member}
 use Rattle.ioa_tree.specs.Hosts.{Host, HostState}

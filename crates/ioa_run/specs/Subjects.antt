@@ -16,7 +16,7 @@ use Rattle.ioa_tree.specs.WellFormed.{WellFormed}
 use Rattle.ioa_compile.specs.Programs.{Prog}
 use Rattle.ioa_compile.specs.Subjects.{InSlots, RunsAs, State, Subject, its_components, its_names, its_starts, of_composition, of_hosts, of_table}
 use Rattle.ioa_compile.specs.Tables.{IsProgram, start_states, tabled}
-use Rattle.ioa_node.specs.Nodes.{Node}
+use Rattle.ioa_parts.specs.Nodes.{Node}
 use Rattle.ioa_system.specs.Logs.{Logged, log_end, log_entry}
 use Rattle.ioa_system.specs.Systems.{values_of}
 use Rattle.ioa_system.specs.declared.log.LogEnd.{LogEnd}

@@ -6,8 +6,8 @@ use Rattle.std.specs.Str.{bytes_eq}
 use Rattle.ioa_value.specs.Actions.{Act, Name}
 use Rattle.ioa_value.specs.Plain.{Val}
 use Rattle.ioa_code.specs.Valid.{Part}
-use Rattle.ioa_node.specs.Faulting.{proposal_faults}
-use Rattle.ioa_node.specs.Proposals.{proposal_of}
+use Rattle.ioa_parts.specs.Faulting.{proposal_faults}
+use Rattle.ioa_parts.specs.Proposals.{proposal_of}
 use Rattle.ioa_tree.specs.Proposing.{Words}
 use Rattle.ioa_compile.specs.Programs.{EntryCode, MemberCode}
 use Rattle.ioa_board.specs.declared.report.Report.{Report}

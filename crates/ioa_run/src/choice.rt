@@ -11,13 +11,12 @@ ghost use Rattle.ioa_tree.specs.Components as components;
 ghost use Rattle.ioa_compile.specs.Shown.{entry_code, member_code};
 ghost use Rattle.ioa_run.specs.Proposers.{action_with, filled, local_entries};
 ghost use Rattle.ioa_run.specs.Choices.{AreOfState, Chooses, GivesAction, IsOfState};
-ghost use Rattle.ioa_node.specs.Proposals.{values_in};
+ghost use Rattle.ioa_parts.specs.Proposals.{values_in};
 ghost use Rattle.ioa_run.specs.Tallies.{IsPick, lost_by};
 
 use crate::tally::{Lost, Pick};
 use ioa_compile::Entry;
-use ioa_flat::{NodeState, Workspace, proposal_with};
-use ioa_node::{Proposal, Words};
+use ioa_node::{NodeState, Proposal, Words, Workspace, proposal_with};
 use ioa_tree::Kind;
 use ioa_value::{Action, OutOfMemory, Position, Value};
 use std::alloc::Global;

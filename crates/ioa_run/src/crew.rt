@@ -10,7 +10,7 @@ use crate::own_room::{OwnRoom, Terms};
 use crate::tally::{Pick, Tally};
 use ioa_board::{Outcome, Plan, Room, Verdict, Why};
 use ioa_compile::Program;
-use ioa_flat::NodeState;
+use ioa_node::NodeState;
 use ioa_value::{Action, OutOfMemory};
 use std::sync::atomic::{AtomicBool, Ordering};
 use std::sync::{Mutex, Wait};

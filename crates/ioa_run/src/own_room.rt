@@ -11,7 +11,7 @@ ghost use Rattle.ioa_run.specs.Tallies.{AreAgreeing, AreTallied, tally_of};
 
 use crate::tally::{Pick, Tally, follow, report_of};
 use ioa_board::{Outcome, Plan, Room, Verdict, Why};
-use ioa_flat::NodeState;
+use ioa_node::NodeState;
 use ioa_value::OutOfMemory;
 use std::marker::{Brand, Model, PhantomData};
 

@@ -7,7 +7,7 @@ use Rattle.std.specs.Io.KnownBytes.{Appends, Keeps}
 use Rattle.std.specs.Result.{IsErrOf}
 use Rattle.ioa_value.specs.Actions.{Act, Name, act_of}
 use Rattle.ioa_value.specs.Plain.{Val}
-use Rattle.ioa_node.specs.Nodes.{Node}
+use Rattle.ioa_parts.specs.Nodes.{Node}
 use Rattle.ioa_compile.specs.Programs.{Prog}
 use Rattle.ioa_compile.specs.Subjects.{RunsAs, Subject}
 use Rattle.ioa_compile.specs.Tables.{tabled}

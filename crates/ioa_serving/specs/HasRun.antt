@@ -2,7 +2,7 @@
 use Rattle.std.specs.Prelude.{◌≡◌, ◌≤◌, ℕ, List, All, length, map}
 use Rattle.ioa_value.specs.Actions.{Act, Name, act_of}
 use Rattle.ioa_value.specs.Plain.{Val}
-use Rattle.ioa_node.specs.Nodes.{Node}
+use Rattle.ioa_parts.specs.Nodes.{Node}
 use Rattle.ioa_compile.specs.Subjects.{RunsAs, Subject}
 use Rattle.ioa_compile.specs.Tables.{IsProgram, tabled}
 use Rattle.ioa_coverage.specs.Covered.{IsOriginOf}

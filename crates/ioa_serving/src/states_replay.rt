@@ -27,7 +27,7 @@ use ioa_compile::{Program, compile};
 use ioa_compose::Composition;
 use ioa_device::{InputDevice, LogErr, OutputDevice, send_all};
 use ioa_enabled::put_enabled;
-use ioa_flat::NodeState;
+use ioa_node::NodeState;
 use ioa_replay::{perform_list, perform_log};
 use ioa_request::Shown;
 use ioa_system::End;

@@ -8,8 +8,8 @@ use Rattle.std.proofs.lemmas.List.Elements.{All-head, All-tail, All-drop}
 use Rattle.std.proofs.lemmas.Map.Keys.{IsDistinct-head, IsDistinct-tail}
 use Rattle.std.proofs.lemmas.Option.{slice_get-get_or}
 use Rattle.ioa_value.proofs.ItemLemmas.{drop_item, image_at}
-use Rattle.ioa_node.specs.Nodes.{Node}
-use Rattle.ioa_flat.specs.Drafts.{Fits, Marked, with_draft}
+use Rattle.ioa_parts.specs.Nodes.{Node}
+use Rattle.ioa_node.specs.Drafts.{Fits, Marked, with_draft}
 use Rattle.ioa_system.specs.declared.participation.Participant.{Participant}
 use Rattle.ioa_system.specs.Drafted.{AllFit, AreDrafts, ArePlaces, drafted}
 use Rattle.ioa_system.specs.Found.{IsLent, lent_types, member_of, numbers_of, state_of}

@@ -4,8 +4,8 @@ use Rattle.std.proofs.lemmas.List.{length-map}
 use Rattle.std.proofs.lemmas.List.Elements.{All-head, All-tail, All-cons}
 use Rattle.ioa_value.specs.Actions.{Act}
 use Rattle.ioa_value.specs.Plain.{Val}
-use Rattle.ioa_node.specs.Nodes.{Node}
-use Rattle.ioa_flat.specs.Drafts.{Marked}
+use Rattle.ioa_parts.specs.Nodes.{Node}
+use Rattle.ioa_node.specs.Drafts.{Marked}
 use Rattle.ioa_tree.specs.Steps.{Moved, next, step}
 use Rattle.ioa_compile.specs.Programs.{MemberCode, Prog}
 use Rattle.ioa_compile.specs.Tables.{tabled}

@@ -7,8 +7,8 @@ use Rattle.ioa_value.proofs.ItemLemmas.{drop_item}
 use Rattle.ioa_arithmetic.specs.declared.arithmetic.Fault.{Fault}
 use Rattle.ioa_value.specs.Actions.{Act}
 use Rattle.ioa_value.specs.Plain.{Val}
-use Rattle.ioa_flat.specs.Drafts.{Fits, Marked, with_draft}
-use Rattle.ioa_node.specs.Nodes.{Node}
+use Rattle.ioa_node.specs.Drafts.{Fits, Marked, with_draft}
+use Rattle.ioa_parts.specs.Nodes.{Node}
 use Rattle.ioa_tree.specs.Components.{has, owns, is_local}
 use Rattle.ioa_tree.specs.Steps.{Moved, next, fault, Asked, free, owned, asked, with_state, then_rest, effects, allowed, step}
 use Rattle.ioa_compile.specs.Shown.{entry_code}

@@ -1,8 +1,8 @@
 -- The participants' drafts: new words for their states, which do not stand yet.
 use Rattle.std.specs.Prelude.{◌≡◌, ◌<◌, ◌≤◌, List, [], ◌∷◌, All, length, nat_eq}
 use Rattle.std.specs.List.{IsDistinct}
-use Rattle.ioa_node.specs.Nodes.{Node}
-use Rattle.ioa_flat.specs.Drafts.{Fits, Marked, with_draft}
+use Rattle.ioa_parts.specs.Nodes.{Node}
+use Rattle.ioa_node.specs.Drafts.{Fits, Marked, with_draft}
 use Rattle.ioa_system.specs.declared.participation.Participant.{Participant}
 use Rattle.ioa_system.specs.Found.{numbers_of, state_of}
 

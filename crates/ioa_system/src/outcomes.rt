@@ -7,7 +7,7 @@ ghost use Rattle.ioa_system.specs.declared.outcomes.Step.TheVariants as variants
 ghost use Rattle.ioa_system.specs.Outcomes.{KeepsUnlessNext, ending_of, performed_by, step_of};
 ghost use Rattle.ioa_system.specs.Endings.{ending_text};
 
-use ioa_flat::NodeState;
+use ioa_node::NodeState;
 use ioa_value::Fault;
 use std::fmt;
 

@@ -11,7 +11,7 @@ use crate::outcomes::End;
 use crate::runs::Run;
 use crate::system::System;
 use ioa_compile::Program;
-use ioa_flat::NodeState;
+use ioa_node::NodeState;
 use ioa_value::{Action, OutOfMemory};
 use std::alloc::Global;
 use std::marker::Model;

@@ -8,7 +8,7 @@ ghost use Rattle.ioa_system.specs.Records.{IsRunAs};
 use crate::outcomes::End;
 use crate::runner::Runner;
 use ioa_compile::Program;
-use ioa_flat::NodeState;
+use ioa_node::NodeState;
 use ioa_value::{Action, OutOfMemory};
 use std::alloc::Global;
 

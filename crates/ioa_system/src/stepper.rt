@@ -14,7 +14,7 @@ use crate::outcomes::Step;
 use crate::participation::{Participant, Participation};
 use crate::steps::moved;
 use ioa_compile::Program;
-use ioa_flat::{Draft, NodeState, Workspace};
+use ioa_node::{Draft, NodeState, Workspace};
 use ioa_value::{Action, OutOfMemory};
 use std::alloc::Global;
 use std::mem;

@@ -3,8 +3,8 @@
 ghost use Rattle.std.specs.Prelude.{◌≡◌, ◌≤◌, All, List, IfOk, OnOk, length, map, Some};
 ghost use Rattle.ioa_value.specs.Plain.{Val};
 ghost use Rattle.ioa_value.specs.Actions.{act_of};
-ghost use Rattle.ioa_node.specs.Runs.{left_by};
-ghost use Rattle.ioa_flat.specs.Drafts.{Fits, standing};
+ghost use Rattle.ioa_parts.specs.Runs.{left_by};
+ghost use Rattle.ioa_node.specs.Drafts.{Fits, standing};
 ghost use Rattle.ioa_tree.specs.Steps as steps;
 ghost use Rattle.ioa_compile.specs.Shown.{entry_code, member_code};
 ghost use Rattle.ioa_compile.specs.Tables as tables;
@@ -19,7 +19,7 @@ ghost use Rattle.ioa_system.specs.Systems.{slot_types, slots_of, types_of, value
 use crate::outcomes::{Moved, Step};
 use crate::participation::{Participant, Participation};
 use ioa_compile::{Entry, Member, Program};
-use ioa_flat::{Draft, NodeState, Workspace, draft_effect, enabled_with};
+use ioa_node::{Draft, NodeState, Workspace, draft_effect, enabled_with};
 use ioa_value::{Action, Fault, OutOfMemory};
 use std::alloc::Global;
 

@@ -14,7 +14,7 @@ use crate::outcomes::Step;
 use crate::participation::Participation;
 use crate::stepper::Stepper;
 use ioa_compile::{Member, Program};
-use ioa_flat::NodeState;
+use ioa_node::NodeState;
 use ioa_value::{Action, OutOfMemory};
 use std::alloc::Global;
 use std::marker::Model;

@@ -10,7 +10,7 @@ ghost use Rattle.ioa_system.specs.Systems.{slot_types, types_of};
 use crate::tests::code::number_of;
 use crate::tests::made::{EMPTY, Got, action, basic, expect_so, parsed, program, set_up};
 use ioa_compile::Program;
-use ioa_flat::NodeState;
+use ioa_node::NodeState;
 use ioa_print::print;
 use ioa_rows::{COUNTER, column, columns, is_row};
 use ioa_system::{Moved, Step, System, participants, run_list, step_from};

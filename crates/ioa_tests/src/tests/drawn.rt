@@ -5,8 +5,7 @@ ghost use Rattle.ioa_code.specs.declared.instr.PartKind.TheVariants as kinds;
 
 use crate::tests::made::{Got, expect_so, program};
 use ioa_compile::Program;
-use ioa_flat::{Decoded, NodeState, Workspace, propose, propose_with};
-use ioa_node::Words;
+use ioa_node::{Decoded, NodeState, Words, Workspace, propose, propose_with};
 use ioa_rows::GAME;
 use ioa_run::Seeded;
 use ioa_value::{Action, Value, print_action, same_all};

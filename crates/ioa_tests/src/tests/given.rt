@@ -4,7 +4,7 @@ use crate::tests::code::decoded;
 use crate::tests::made::{Got, basic};
 use ioa_code::{Code, Env, Instr, PartKind, verify};
 use ioa_compile::{Entry, Member, Program, TableErr, Tables};
-use ioa_flat::{Decoded, from_values};
+use ioa_node::{Decoded, from_values};
 use ioa_tree::Kind;
 use ioa_value::{Ty, Types, Value};
 use std::alloc::Global;

@@ -2,7 +2,7 @@
 
 use crate::tests::made::{Got, action, expect_so, expect_text, program};
 use ioa_compile::Program;
-use ioa_flat::{NodeState, state_values};
+use ioa_node::{NodeState, state_values};
 use ioa_rows::COUNTER;
 use ioa_system::{End, Participation, Run, is_external, owner, participants, run_list};
 use ioa_value::{Action, Fault, Types, print_action, read_list};

@@ -11,7 +11,7 @@ use crate::tests::made::{EMPTY, Got, action, expect_text, set_up};
 use crate::tests::reached::{TWO, told_states};
 use crate::tests::schedules::told_entries;
 use ioa_compile::Program;
-use ioa_flat::NodeState;
+use ioa_node::NodeState;
 use ioa_rows::COUNTER;
 use ioa_run::{Answer, Board, Outcome, Plan, Planned, Report, Room, Verdict, Why};
 use ioa_system::participants;

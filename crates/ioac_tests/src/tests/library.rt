@@ -2,7 +2,7 @@
 
 use crate::tests::shelf::{First, Given, Wanted, expect, expect_rows, run};
 use ioa_compile::Program;
-use ioa_flat::Decoded;
+use ioa_node::Decoded;
 use ioa_object::write_object;
 use ioac::{Status, compile_text};
 use std::alloc::Global;

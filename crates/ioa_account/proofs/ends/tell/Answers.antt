@@ -1,7 +1,7 @@
 use Rattle.std.proofs.Common.{◌≡◌, List, map, refl, sym, ap, subst, ◌∙◌}
 use Rattle.ioa_value.specs.Actions.{act_of}
 use Rattle.ioa_value.specs.Plain.{Val}
-use Rattle.ioa_node.specs.Nodes.{Node}
+use Rattle.ioa_parts.specs.Nodes.{Node}
 use Rattle.ioa_tree.specs.Hosts.{host_starts, hosts_of}
 use Rattle.ioa_tree.specs.Likes.{AllRelated}
 use Rattle.ioa_tree.specs.Runs.{Reached, run}

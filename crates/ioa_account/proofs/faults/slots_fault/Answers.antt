@@ -3,7 +3,7 @@ use Rattle.std.specs.Option.{option_and_then, option_map}
 use Rattle.std.proofs.lemmas.Option.{slice_get-map, slice_get_past}
 use Rattle.ioa_value.proofs.ItemLemmas.{at_map}
 use Rattle.ioa_value.specs.Plain.{plain}
-use Rattle.ioa_node.specs.Nodes.{Node}
+use Rattle.ioa_parts.specs.Nodes.{Node}
 use Rattle.ioa_compose.specs.Held.{composed_of}
 use Rattle.ioa_system.specs.Systems.{values_of}
 use Rattle.ioa_inspect.specs.Breaking.{IsState}

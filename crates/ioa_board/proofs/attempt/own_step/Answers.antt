@@ -1,7 +1,7 @@
 use Rattle.std.proofs.Common.{◌≡◌, ◌++◌, List, Option, length, drop, take, ap, subst, sym, ◌∙◌, rules}
 use Rattle.std.proofs.lemmas.Result.{IfOk-weaker, on_err_weaker}
 use Rattle.ioa_value.specs.Actions.{act_of}
-use Rattle.ioa_node.specs.Nodes.{Node}
+use Rattle.ioa_parts.specs.Nodes.{Node}
 use Rattle.ioa_system.specs.declared.outcomes.Step.{Step}
 use Rattle.ioa_system.specs.ProgramActions.{ProgramAction}
 use Rattle.ioa_system.specs.Systems.{slot_types, types_of}

@@ -4,7 +4,7 @@ use Rattle.std.specs.Vec.{vec_len}
 use Rattle.std.proofs.lemmas.List.{length-map, map-append}
 use Rattle.ioa_value.specs.Actions.{Act, act_of}
 use Rattle.ioa_value.specs.Plain.{Val, plain}
-use Rattle.ioa_node.specs.Proposals.{values_in}
+use Rattle.ioa_parts.specs.Proposals.{values_in}
 use Rattle.ioa_compile.specs.Programs.{EntryCode}
 use Rattle.ioa_compile.specs.Shown.{entry_code}
 use Rattle.ioa_enabled.specs.Sampled.{sampled}

@@ -1,5 +1,5 @@
 use Rattle.std.proofs.Common.{◌≡◌, List, map, take}
-use Rattle.ioa_node.specs.Proposals.{values_in}
+use Rattle.ioa_parts.specs.Proposals.{values_in}
 use Rattle.ioa_compile.specs.Shown.{entry_code}
 use Rattle.ioa_enabled.specs.Sampled.{HasWays, shown}
 use Rattle.ioa_enabled.specs.Ways.{Values}

@@ -7,7 +7,7 @@ use Rattle.std.proofs.lemmas.List.{length-map, map-append}
 use Rattle.ioa_value.specs.Plain.{Val, plain}
 use Rattle.ioa_value.specs.declared.value.Value.{Value}
 use Rattle.ioa_value.proofs.ItemLemmas.{at_map, drop_item}
-use Rattle.ioa_node.specs.Proposals.{values_in}
+use Rattle.ioa_parts.specs.Proposals.{values_in}
 use Rattle.ioa_enabled.specs.Offers.{picked}
 use Rattle.ioa_enabled.proofs.Carrying.{behind, picks_one}
 use Rattle.ioa_enabled.proofs.combinations.combination.Goals as goal

@@ -1,7 +1,7 @@
 use Rattle.std.proofs.Common.{◌≡◌, ◌++◌, drop, map}
 use Rattle.std.specs.Option.{option_map}
 use Rattle.ioa_value.specs.Plain.{plain}
-use Rattle.ioa_node.specs.Proposals.{values_in}
+use Rattle.ioa_parts.specs.Proposals.{values_in}
 use Rattle.ioa_enabled.specs.Offers.{picked}
 use Rattle.ioa_enabled.proofs.combinations.combination.Given as goal
 

@@ -6,7 +6,7 @@ use Rattle.ioa_value.specs.Actions.{Act, act_of}
 use Rattle.std.specs.Global.{Global}
 use Rattle.ioa_value.specs.declared.action.Action.{Action}
 use Rattle.ioa_value.specs.Plain.{Val, plain}
-use Rattle.ioa_node.specs.Proposals.{values_in}
+use Rattle.ioa_parts.specs.Proposals.{values_in}
 use Rattle.ioa_compile.specs.Shown.{member_code}
 use Rattle.ioa_compile.specs.Tables.{table_component}
 use Rattle.ioa_enabled.specs.Sampled.{named}

@@ -1,7 +1,7 @@
 use Rattle.std.proofs.Common.{◌≡◌, ◌+◌, ◌≤◌, List, filter, map}
 use Rattle.std.specs.List.{range_with_len}
 use Rattle.ioa_value.specs.Actions.{act_of}
-use Rattle.ioa_node.specs.Proposals.{values_in}
+use Rattle.ioa_parts.specs.Proposals.{values_in}
 use Rattle.ioa_compile.specs.Shown.{member_code}
 use Rattle.ioa_compile.specs.Tables.{table_component}
 use Rattle.ioa_enabled.specs.Sampled.{shown}

@@ -4,7 +4,7 @@ use Rattle.std.specs.Global.{Global}
 use Rattle.std.proofs.lemmas.List.{length-map}
 use Rattle.ioa_value.specs.Plain.{Val}
 use Rattle.ioa_value.proofs.ItemLemmas.{at_map, item_there}
-use Rattle.ioa_node.specs.Nodes.{Node}
+use Rattle.ioa_parts.specs.Nodes.{Node}
 use Rattle.ioa_tree.specs.Compositions.{Member}
 use Rattle.ioa_compose.specs.Held.{member_of}
 use Rattle.ioa_compile.specs.Programs.{MemberCode}

@@ -2,7 +2,7 @@ use Rattle.std.proofs.Common.{◌≤◌, length, Some, refl, sym, ◌∙◌, ari
 use Rattle.std.proofs.lemmas.List.{length-map}
 use Rattle.std.proofs.lemmas.Option.{slice_get_read}
 use Rattle.ioa_value.proofs.ItemLemmas.{at_map}
-use Rattle.ioa_node.specs.Nodes.{Node}
+use Rattle.ioa_parts.specs.Nodes.{Node}
 use Rattle.ioa_compose.specs.Held.{composed_of}
 use Rattle.ioa_system.specs.Systems.{values_of}
 use Rattle.ioa_inspect.proofs.Breaking.{next_state, looked_more, looked_next, looked_all}

@@ -5,7 +5,7 @@ use Rattle.ioa_value.specs.Plain.{Val, number, plain}
 use Rattle.ioa_value.specs.Table.{contains}
 use Rattle.ioa_value.specs.Typing.{own}
 use Rattle.ioa_value.proofs.TypingLemmas.{HaveTypes-from_own}
-use Rattle.ioa_node.specs.Nodes.{Node}
+use Rattle.ioa_parts.specs.Nodes.{Node}
 use Rattle.ioa_crash.specs.Limits.{component_limits}
 use Rattle.ioa_compile.specs.Programs.{MemberCode}
 use Rattle.ioa_compile.specs.Shown.{entry_code, member_code}

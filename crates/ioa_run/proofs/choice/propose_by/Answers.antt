@@ -2,9 +2,9 @@ use Rattle.std.proofs.Common.{◌≡◌, ◌∙◌, List, Option, Some, ap, subs
 use Rattle.std.specs.Option.{option_map}
 use Rattle.ioa_value.specs.Plain.{Val}
 use Rattle.ioa_code.specs.Valid.{Part}
-use Rattle.ioa_node.specs.declared.proposal.Proposal.{Proposal}
-use Rattle.ioa_node.specs.Faulting.{has_faulted, proposal_faults, values_given}
-use Rattle.ioa_node.specs.Proposals.{proposal_of}
+use Rattle.ioa_parts.specs.declared.proposal.Proposal.{Proposal}
+use Rattle.ioa_parts.specs.Faulting.{has_faulted, proposal_faults, values_given}
+use Rattle.ioa_parts.specs.Proposals.{proposal_of}
 use Rattle.ioa_tree.specs.Proposing.{Words}
 use Rattle.ioa_compile.specs.Programs.{EntryCode}
 use Rattle.ioa_compile.specs.Shown.{entry_code}

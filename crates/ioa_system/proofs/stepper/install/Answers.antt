@@ -1,5 +1,5 @@
 use Rattle.std.proofs.Common.{◌+◌, List, set, sym, subst}
-use Rattle.ioa_node.specs.Nodes.{Node}
+use Rattle.ioa_parts.specs.Nodes.{Node}
 use Rattle.ioa_system.specs.declared.participation.Participant.{Participant}
 use Rattle.ioa_system.proofs.Drafting.{Installs, fit_next, installs_next}
 use Rattle.ioa_system.proofs.stepper.install.Goals as goal

@@ -1,6 +1,6 @@
 use Rattle.std.proofs.Common.{◌≡◌, ◌<◌, ◌++◌, ◌∷◌, [], List, length, sym, ap, subst, ◌∙◌, arith}
-use Rattle.ioa_node.specs.Nodes.{Node}
-use Rattle.ioa_flat.specs.Drafts.{Fits, Marked, with_draft}
+use Rattle.ioa_parts.specs.Nodes.{Node}
+use Rattle.ioa_node.specs.Drafts.{Fits, Marked, with_draft}
 use Rattle.ioa_system.specs.declared.participation.Participant.{Participant}
 use Rattle.ioa_system.specs.Found.{IsLent, state_of}
 use Rattle.ioa_system.proofs.Drafting.{drafted_more, fit_at}

@@ -1,9 +1,9 @@
 use Rattle.std.proofs.Common.{◌≡◌, ◌<◌, ℕ, List, length, Ok, sym, ap, subst, ◌∙◌, arith}
 use Rattle.std.proofs.lemmas.Result.{IfOk-at_ok}
 use Rattle.ioa_value.specs.Actions.{Act, act_of}
-use Rattle.ioa_flat.specs.Drafts.{Fits, Marked, standing}
-use Rattle.ioa_node.specs.Nodes.{Node}
-use Rattle.ioa_node.specs.Runs.{left_by}
+use Rattle.ioa_node.specs.Drafts.{Fits, Marked, standing}
+use Rattle.ioa_parts.specs.Nodes.{Node}
+use Rattle.ioa_parts.specs.Runs.{left_by}
 use Rattle.ioa_system.specs.declared.participation.Participant.{Participant}
 use Rattle.ioa_system.specs.Found.{component_of, state_of}
 use Rattle.ioa_system.proofs.Stepping.{AtTurn, at_turn, state_is, acts_next}

@@ -13,7 +13,7 @@ use crate::tests::memory::{Came, all_but};
 use crate::tests::rooms::{copies, planned};
 use crate::tests::schedules::told_board;
 use ioa_compile::Program;
-use ioa_flat::NodeState;
+use ioa_node::NodeState;
 use ioa_run::{Answer, Board, Core, Event, Plan, Planned, Room, RunErr, Verdict};
 use ioa_value::{Action, OutOfMemory};
 use std::alloc::Global;

@@ -1,8 +1,8 @@
 use Rattle.std.proofs.Common.{◌≡◌, List, IfOk, sym, ap, subst, ◌∙◌}
 use Rattle.std.proofs.lemmas.Result.{IfOk-weaker}
 use Rattle.ioa_value.specs.Actions.{Act}
-use Rattle.ioa_node.specs.Nodes.{Node}
-use Rattle.ioa_flat.specs.Drafts.{Marked}
+use Rattle.ioa_parts.specs.Nodes.{Node}
+use Rattle.ioa_node.specs.Drafts.{Marked}
 use Rattle.ioa_tree.specs.Steps as steps
 use Rattle.ioa_compile.specs.Programs.{Prog}
 use Rattle.ioa_compile.specs.Tables.{tabled}

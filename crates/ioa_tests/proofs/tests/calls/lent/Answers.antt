@@ -4,7 +4,7 @@ use Rattle.std.specs.Option.{option_map}
 use Rattle.std.specs.Prelude.{slice_get}
 use Rattle.std.proofs.lemmas.List.{take_all, map-append}
 use Rattle.std.proofs.lemmas.Option.{slice_get-map, slice_get-get_or, slice_get_past}
-use Rattle.ioa_flat.specs.declared.state.NodeState.{NodeState}
+use Rattle.ioa_node.specs.declared.state.NodeState.{NodeState}
 use Rattle.ioa_compile.specs.Programs.{MemberCode}
 use Rattle.ioa_value.specs.Actions.{act_of}
 use Rattle.ioa_tree.specs.Steps.{participants}

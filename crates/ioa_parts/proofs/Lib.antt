@@ -1,0 +1,4 @@
+pub mod Wanting
+pub mod Runs
+pub mod Ends
+pub mod Sameness
