@@ -22,7 +22,7 @@ use crate::types::variable_types;
 use ioa_code::{Code, PartKind};
 use ioa_compose::{Composition, Member};
 use ioa_emit::{Scope, emit_expression};
-use ioa_node::{Decoded, NodeState, enabled};
+use ioa_node::{Decoded, NodeState, Workspace, enabled_with};
 use ioa_tree::Expression;
 use ioa_value::{OutOfMemory, Ty};
 use ioa_words::Layout;
@@ -80,12 +80,13 @@ impl<'a> Asked<'a> {
     }
 
     /// Whether the invariant of this number is true of the component of this number in this state. A fault is not. None where there is no code for
-    /// it: the invariant is of another automaton, or too large.
+    /// it: the invariant is of another automaton, or too large. The memory of the workspace is used again.
     ///
     /// # Errors
     /// `OutOfMemory`.
     pub fn holds(
         &self,
+        workspace: &mut Workspace,
         component: usize,
         invariant: usize,
         state: &NodeState,
@@ -102,7 +103,7 @@ impl<'a> Asked<'a> {
         let Some(Some(code)) = codes.get(invariant) else {
             return Ok(None);
         };
-        match enabled(*self.codes.allocator(), code, state, &[])? {
+        match enabled_with(workspace, code, state, &[])? {
             Ok(holds) => Ok(Some(holds)),
             Err(_) => Ok(Some(false)),
         }

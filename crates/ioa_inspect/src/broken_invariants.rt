@@ -23,7 +23,7 @@ ghost use Rattle.ioa_inspect.specs.Breaking.{AreStates, AreTyped, IsInspectionOf
 use ioa_compile::{Asked, Program, compile};
 use ioa_compose::Composition;
 use ioa_device::LogErr;
-use ioa_node::{NodeState, state_values};
+use ioa_node::{NodeState, Workspace, state_values};
 use ioa_replay::TracedJudge;
 use ioa_system::{End, Log, Run};
 use ioa_value::{OutOfMemory, Value};
@@ -162,8 +162,10 @@ fn broken_in(
     ensures { IfOk result (λ b. option_map broken_of b
         ≡ spec.broken_at (composed_of asked.now) count (states_in (composed_of asked.now).members 0 (values_of states.now))) }
 {
+    let mut workspace = Workspace::new(alloc);
     for component in 0..states.len() {
-        let first = broken_by(alloc, asked, component, &states[component])?;
+        let state = &states[component];
+        let first = broken_by(alloc, &mut workspace, asked, component, state)?;
         if let Some(invariant) = first {
             return Ok(Some(Broken {
                 state: count,
@@ -178,6 +180,7 @@ fn broken_in(
 /// The number of the first invariant that the component of this number breaks in this state.
 fn broken_by(
     alloc: Global,
+    workspace: &mut Workspace,
     asked: &Asked<'_>,
     component: usize,
     state: &NodeState,
@@ -188,7 +191,7 @@ fn broken_by(
         → k ≡ spec.broken_by 0 (composed_of asked.now).invariants m.instance (state_of m.instance.automaton state.now.values)) }
 {
     for number in 0..asked.composition().invariants().len() {
-        let broken = breaks(alloc, asked, component, number, state)?;
+        let broken = breaks(alloc, workspace, asked, component, number, state)?;
         if broken {
             return Ok(Some(number));
         }
@@ -199,6 +202,7 @@ fn broken_by(
 /// Whether the component of this number breaks the invariant of this number in this state.
 fn breaks(
     alloc: Global,
+    workspace: &mut Workspace,
     asked: &Asked<'_>,
     component: usize,
     invariant: usize,
@@ -214,7 +218,7 @@ fn breaks(
     if !composition.is_about(component, invariant) {
         return Ok(false);
     }
-    let holds = match asked.holds(component, invariant, state)? {
+    let holds = match asked.holds(workspace, component, invariant, state)? {
         Some(holds) => holds,
         None => {
             let values = state_values(alloc, state)?;

@@ -23,6 +23,6 @@ pub use decoded::Decoded;
 pub use draft::Draft;
 pub use ioa_parts::{Proposal, Words};
 pub use proposal::{proposal_with, propose, propose_with};
-pub use run::{draft_effect, effect, enabled, enabled_with};
+pub use run::{draft_effect, effect, enabled, enabled_on, enabled_with, write_values};
 pub use state::{NodeState, from_values, state_values};
 pub use workspace::Workspace;

@@ -1,5 +1,5 @@
 -- The states that are lent to participants.
-use Rattle.std.proofs.Common.{◌≡◌, ℕ, zero, suc, ◌+◌, ◌<◌, List, [], ◌∷◌, length, get_or, drop, map, filter, All, Some, refl, sym, ◌∙◌, ap, subst, arith}
+use Rattle.std.proofs.Common.{◌≡◌, ℕ, ℤ, zero, suc, ◌+◌, ◌<◌, List, [], ◌∷◌, length, get_or, drop, map, filter, All, Some, refl, sym, ◌∙◌, ap, subst, arith}
 use Rattle.std.specs.Prelude.{slice_get}
 use Rattle.std.proofs.lemmas.List.{length-map}
 use Rattle.std.proofs.lemmas.List.Elements.{All-head, All-tail, All-cons}
@@ -12,8 +12,9 @@ use Rattle.ioa_compile.specs.Programs.{MemberCode, Prog}
 use Rattle.ioa_compile.specs.Shown.{entry_code}
 use Rattle.ioa_compile.specs.Tables.{AreEntries, AreMembers, entry_of, tabled}
 use Rattle.ioa_system.specs.declared.participation.Participant.{Participant}
-use Rattle.ioa_system.specs.Found.{member_of, components_of, numbers_of, placed, AreParticipants, state_of, lent, lent_types, IsLent, AreReady}
+use Rattle.ioa_system.specs.Found.{member_of, components_of, numbers_of, placed, AreParticipants, state_of, lent, lent_types, IsLent, HaveOneTable, AreArguments, AreReady}
 use Rattle.ioa_value.specs.Table.{Table}
+use Rattle.ioa_words.specs.Layout.{flat_all}
 use Rattle.ioa_value.proofs.ItemLemmas.{image_at}
 use Rattle.ioa_system.specs.Participants.{taken, renumbered, step_from}
 use Rattle.ioa_system.specs.Systems.{types_of, values_of, slot_types, slots_of}
@@ -30,6 +31,20 @@ sound_got types (x ∷ ms) (suc i) m h e = sound_got types ms i m h.1 e
 
 pub all_sound : (types : Table) (a : Act) (ms : List MemberCode) (qs : List Participant) → AreParticipants a ms qs → AreMembers types ms → All (λ q. AreEntries (member_of q) (member_of q).entries) qs
 all_sound types a ms qs p h = λ k d l. let q : Participant = get_or qs k d in sound_got types ms q.component (member_of q) h (p.members k d l)
+
+table_got : (types : Table) (ms : List MemberCode) (i : ℕ) (m : MemberCode) → AreMembers types ms → slice_get ms i ≡ Some m → m.start.table ≡ types
+table_got types [] i m h e = absurd (cc)
+table_got types (x ∷ ms) zero m h e = let q : x ≡ m = cc in subst (λ (y : MemberCode). y.start.table ≡ types) q h.0.types_are
+table_got types (x ∷ ms) (suc i) m h e = table_got types ms i m h.1 e
+
+all_alike : (types : Table) (a : Act) (ms : List MemberCode) (qs : List Participant) → AreParticipants a ms qs → AreMembers types ms → All (λ q. (member_of q).start.table ≡ types) qs
+all_alike types a ms qs p h = λ k d l. let q : Participant = get_or qs k d in table_got types ms q.component (member_of q) h (p.members k d l)
+
+-- words of the action's values by the types of the first participant are so by those of each
+pub arguments_of : (a : Act) (qs : List Participant) (q : Participant) (ws : List ℤ) → HaveOneTable qs → 0 < length qs → q ≡ get_or qs 0 q → ws ≡ flat_all (member_of q).start.table a.vals → AreArguments a qs ws
+arguments_of a qs q ws h l e w =
+    let first : (member_of q).start.table ≡ h.0 = subst (λ (p : Participant). (member_of p).start.table ≡ h.0) (sym e) (h.1 0 q l) in
+    λ k d m. w ∙ ap (λ t. flat_all t a.vals) (first ∙ sym (h.1 k d m))
 
 -- the items of the participants' numbers, where each is known
 pub taken_map : {X : Type 0} (f : Participant → X) (xs : List X) (qs : List Participant) → All (λ q. slice_get xs q.component ≡ Some (f q)) qs
@@ -68,6 +83,7 @@ pub ready_all : (types : Table) (a : Act) (ms : List MemberCode) (ns : List Node
     → AreMembers types ms → types_of ns ≡ slot_types ms → AreReady a ns qs
 ready_all types a ms ns qs p h t = record {
   entries = p.entries;
+  table = (types, all_alike types a ms qs p h);
   sound = all_sound types a ms qs p h;
   states = λ k d l.
       let q : Participant = get_or qs k d in
@@ -132,6 +148,7 @@ pub ready_alone : (types : Table) (a : Act) (ms : List MemberCode) (ns : List No
     → types_of ns ≡ taken (participants (tables ms) a) (slot_types ms) → AreReady a ns (placed 0 qs)
 ready_alone types a ms ns qs p h t = record {
   entries = placed_all (λ q. entry_of (member_of q) a ≡ Some (entry_code q.entry.now)) (λ q j e. e) 0 qs p.entries;
+  table = (types, placed_all (λ q. (member_of q).start.table ≡ types) (λ q j e. e) 0 qs (all_alike types a ms qs p h));
   sound = placed_all (λ q. AreEntries (member_of q) (member_of q).entries) (λ q j e. e) 0 qs (all_sound types a ms qs p h);
   states = (lent_alone_from ns 0 ns qs refl (t ∙ types_taken a ms qs p)).0;
 }

@@ -1,9 +1,11 @@
 -- The participants that are found for an action, and the states that are lent to them.
-use Rattle.std.specs.Prelude.{◌≡◌, ◌<◌, ◌+◌, ℕ, Bool, true, false, List, [], ◌∷◌, All, Option, None, Some, filter, find, length, map, slice_get, slice_index_or, if◌then◌else◌}
+use Rattle.std.specs.Prelude.{◌≡◌, ◌<◌, ◌+◌, ℕ, ℤ, Bool, true, false, List, [], ◌∷◌, All, Option, None, Some, filter, find, length, map, slice_get, slice_index_or, if◌then◌else◌}
 use Rattle.std.specs.Option.{option_map_or}
 use Rattle.ioa_value.specs.Actions.{Act}
 use Rattle.ioa_value.specs.Plain.{Val}
 use Rattle.ioa_value.specs.Positions.{all_take}
+use Rattle.ioa_value.specs.Table.{Table}
+use Rattle.ioa_words.specs.Layout.{flat_all}
 use Rattle.ioa_parts.specs.Nodes.{Node}
 use Rattle.ioa_tree.specs.declared.tree.Kind.{Kind}
 use Rattle.ioa_tree.specs.Components.{Component, has, is_local}
@@ -96,9 +98,18 @@ lent_types qs = map (λ q. slots_of (member_of q).start) qs
 abbrev pub IsLent : List Node → Participant → Type 0
 IsLent ns q = (q.place < length ns) × (slots_of (state_of ns q) ≡ slots_of (member_of q).start)
 
--- the participants' entries have the action and are sound, and their states are at hand
+-- the participants' variables are over one table of types
+abbrev pub HaveOneTable : List Participant → Type 0
+HaveOneTable qs = (types : Table) × All (λ q. (member_of q).start.table ≡ types) qs
+
+-- the words are those of the action's values, by the types of each participant
+abbrev pub AreArguments : Act → List Participant → List ℤ → Type 0
+AreArguments a qs ws = All (λ q. ws ≡ flat_all (member_of q).start.table a.vals) qs
+
+-- the participants' entries have the action and are sound, over one table of types, and their states are at hand
 pub record AreReady (a : Act) (ns : List Node) (qs : List Participant) : Type 0 where
   pub entries : HaveEntries a qs
+  pub table : HaveOneTable qs
   pub sound : All (λ q. AreEntries (member_of q) (member_of q).entries) qs
   pub states : All (IsLent ns) qs
 

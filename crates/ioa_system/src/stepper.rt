@@ -27,6 +27,8 @@ pub struct Stepper<'a> {
     room: Vec<Participant<'a>>,
     /// Memory in which the participants' code runs.
     workspace: Workspace,
+    /// Room for the words of an action's values.
+    args: Vec<i64>,
     /// Room for the participants' new words.
     drafts: Vec<Draft>,
 }
@@ -38,6 +40,7 @@ impl Drop for Stepper<'_> {
             alloc: _,
             room: _,
             workspace: _,
+            args: _,
             drafts: _,
         } = self;
     }
@@ -50,6 +53,7 @@ impl<'a> Stepper<'a> {
             alloc,
             room: Vec::new(alloc),
             workspace: Workspace::new(alloc),
+            args: Vec::new(alloc),
             drafts: Vec::new(alloc),
         }
     }
@@ -93,6 +97,7 @@ impl<'a> Stepper<'a> {
         let step = moved(
             self.alloc,
             &mut self.workspace,
+            &mut self.args,
             &mut self.drafts,
             participants,
             participation.action(),

@@ -3,6 +3,7 @@
 ghost use Rattle.std.specs.Prelude.{◌≡◌, ◌≤◌, All, List, IfOk, OnOk, length, map, Some};
 ghost use Rattle.ioa_value.specs.Plain.{Val};
 ghost use Rattle.ioa_value.specs.Actions.{act_of};
+ghost use Rattle.ioa_words.specs.Layout.{flat_all};
 ghost use Rattle.ioa_parts.specs.Runs.{left_by};
 ghost use Rattle.ioa_node.specs.Drafts.{Fits, standing};
 ghost use Rattle.ioa_tree.specs.Steps as steps;
@@ -10,7 +11,7 @@ ghost use Rattle.ioa_compile.specs.Shown.{entry_code, member_code};
 ghost use Rattle.ioa_compile.specs.Tables as tables;
 ghost use Rattle.ioa_compile.specs.Tables.{AreEntries, table_component, tabled};
 ghost use Rattle.ioa_system.specs.Outcomes.{AreOfTypes, IfNext, moved_of, step_of};
-ghost use Rattle.ioa_system.specs.Found.{AreReady, IsLent, components_of, consented, lent, lent_types, numbers_of, placed};
+ghost use Rattle.ioa_system.specs.Found.{AreArguments, AreReady, HaveOneTable, IsLent, components_of, consented, lent, lent_types, numbers_of, placed};
 ghost use Rattle.ioa_system.specs.Drafted.{AreDrafts, drafted};
 ghost use Rattle.ioa_system.specs.Participants as spec;
 ghost use Rattle.ioa_system.specs.Preconditions as preconditions;
@@ -19,7 +20,7 @@ ghost use Rattle.ioa_system.specs.Systems.{slot_types, slots_of, types_of, value
 use crate::outcomes::{Moved, Step};
 use crate::participation::{Participant, Participation};
 use ioa_compile::{Entry, Member, Program};
-use ioa_node::{Draft, NodeState, Workspace, draft_effect, enabled_with};
+use ioa_node::{Draft, NodeState, Workspace, draft_effect, enabled_on, write_values};
 use ioa_value::{Action, Fault, OutOfMemory};
 use std::alloc::Global;
 
@@ -57,10 +58,15 @@ impl Participation<'_, '_> {
         requires { types_of states.now ≡ slot_types self.now.program.members }
         ensures { IfOk result (λ b. b ≡ preconditions.precondition_faults (tabled self.now.program) self.now.action (values_of states.now)) }
     {
+        let participants = self.participants();
+        let action = self.action();
+        let mut args = Vec::new(alloc);
+        write_arguments(participants, action, &mut args)?;
         let consent = asked(
             &mut Workspace::new(alloc),
-            self.participants(),
-            self.action(),
+            participants,
+            action,
+            &args,
             states,
         )?;
         Ok(consent.is_fault())
@@ -80,6 +86,7 @@ impl Participation<'_, '_> {
         let step = moved(
             alloc,
             &mut Workspace::new(alloc),
+            &mut Vec::new(alloc),
             &mut drafts,
             participants,
             self.action(),
@@ -164,11 +171,12 @@ fn changed(
 }
 
 /// What the participants' step answers from the states at hand. Where it answers `Next`, the drafts hold the new words of
-/// the participants' variables, in order; the states stay as they are. The memory of the workspace and the drafts is
-/// used again.
+/// the participants' variables, in order; the states stay as they are. The memory of the workspace, of the words of the action's values
+/// and of the drafts is used again.
 pub(crate) fn moved(
     alloc: Global,
     workspace: &mut Workspace,
+    args: &mut Vec<i64>,
     drafts: &mut Vec<Draft>,
     participants: &[Participant<'_>],
     action: &Action,
@@ -182,8 +190,9 @@ pub(crate) fn moved(
         return Ok(Step::NotAnAction);
     }
     make_room(alloc, drafts, participants.len())?;
-    match asked(workspace, participants, action, states)? {
-        Consent::Given => effects(workspace, drafts, participants, action, states),
+    write_arguments(participants, action, args)?;
+    match asked(workspace, participants, action, args, states)? {
+        Consent::Given => effects(workspace, drafts, participants, action, args, states),
         Consent::Denied => Ok(Step::NotEnabled),
         Consent::Faulted(component, fault) => Ok(Step::Fault(component, fault)),
     }
@@ -199,14 +208,33 @@ fn make_room(alloc: Global, drafts: &mut Vec<Draft>, count: usize) -> Result<(),
     Ok(())
 }
 
-/// Whether the owner lets the action be performed.
+/// The words of the action's values, in place of what was there: for the owner's precondition and for all effects.
+fn write_arguments(
+    participants: &[Participant<'_>],
+    action: &Action,
+    args: &mut Vec<i64>,
+) -> Result<(), OutOfMemory>
+    requires { HaveOneTable participants.now }
+    ensures { OnOk result (AreArguments (act_of action.now) participants.now args.new.items) }
+{
+    if participants.is_empty() {
+        return Ok(());
+    }
+    let layout = participants[0].member.start.layout();
+    write_values(layout, &action.vals, args)?;
+    Ok(())
+}
+
+/// Whether the owner lets the action, whose values have these words, be performed.
 fn asked(
     workspace: &mut Workspace,
     participants: &[Participant<'_>],
     action: &Action,
+    args: &[i64],
     states: &[NodeState],
 ) -> Result<Consent, OutOfMemory>
-    requires { AreReady (act_of action.now) states.now participants.now }
+    requires ready { AreReady (act_of action.now) states.now participants.now }
+    requires words { AreArguments (act_of action.now) participants.now args.now }
     ensures { IfOk result (λ r. (m : steps.Moved (List Val)) → consented r (spec.renumbered (numbers_of participants.now) m)
         ≡ spec.renumbered (numbers_of participants.now) (steps.allowed (steps.asked 0 (components_of participants.now) (act_of action.now) (lent states.now participants.now)) m)) }
 {
@@ -218,6 +246,7 @@ fn asked(
                 participant.member,
                 participant.entry,
                 action,
+                args,
                 state,
             )?;
             return Ok(consent_by(participant.component, answer));
@@ -243,9 +272,11 @@ fn effects(
     drafts: &mut [Draft],
     participants: &[Participant<'_>],
     action: &Action,
+    args: &[i64],
     states: &[NodeState],
 ) -> Result<Step, OutOfMemory>
     requires ready { AreReady (act_of action.now) states.now participants.now }
+    requires words { AreArguments (act_of action.now) participants.now args.now }
     requires room { length participants.now ≤ length drafts.old }
     ensures value { IfOk result (λ s. step_of s (values_of (drafted states.now participants.now drafts.new)) ≡ spec.renumbered (numbers_of participants.now) (steps.effects 0 (components_of participants.now) (act_of action.now) (lent states.now participants.now))) }
     ensures drafts { IfOk result (λ s. IfNext s (AreDrafts states.now participants.now drafts.new)) }
@@ -259,6 +290,7 @@ fn effects(
             participant.member,
             participant.entry,
             action,
+            args,
             state,
         )? {
             Ok(()) => {}
@@ -274,15 +306,17 @@ fn guard(
     member: &Member,
     entry: &Entry,
     action: &Action,
+    args: &[i64],
     state: &NodeState,
 ) -> Result<Result<bool, Fault>, OutOfMemory>
     requires sound { AreEntries (member_code member.now) (member_code member.now).entries }
     requires found { tables.entry_of (member_code member.now) (act_of action.now) ≡ Some (entry_code entry.now) }
     requires slots { slots_of state.now ≡ slots_of (member_code member.now).start }
+    requires words { args.now ≡ flat_all (member_code member.now).start.table (act_of action.now).vals }
     ensures { IfOk result (λ r. r ≡ (table_component (member_code member.now)).guard (act_of action.now) state.now.values) }
 {
     match &entry.pre {
-        Some(code) => enabled_with(workspace, code, state, &action.vals),
+        Some(code) => enabled_on(workspace, code, state, &action.vals, args),
         None => Ok(Ok(true)),
     }
 }
@@ -294,13 +328,15 @@ fn effect_on(
     member: &Member,
     entry: &Entry,
     action: &Action,
+    args: &[i64],
     state: &NodeState,
 ) -> Result<Result<(), Fault>, OutOfMemory>
     requires sound { AreEntries (member_code member.now) (member_code member.now).entries }
     requires found { tables.entry_of (member_code member.now) (act_of action.now) ≡ Some (entry_code entry.now) }
     requires slots { slots_of state.now ≡ slots_of (member_code member.now).start }
+    requires words { args.now ≡ flat_all (member_code member.now).start.table (act_of action.now).vals }
     ensures value { IfOk result (λ r. left_by r (standing draft.new state.now) ≡ (table_component (member_code member.now)).effect (act_of action.now) state.now.values) }
     ensures fits { IfOk result (λ r. IfOk r (λ _. Fits draft.new state.now)) }
 {
-    draft_effect(workspace, draft, &entry.effect, state, &action.vals)
+    draft_effect(workspace, draft, &entry.effect, state, &action.vals, args)
 }

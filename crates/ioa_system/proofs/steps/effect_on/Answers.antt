@@ -1,10 +1,11 @@
-use Rattle.std.proofs.Common.{map, subst, sym, List}
+use Rattle.std.proofs.Common.{List, map, sym, subst, ap₂, ◌∙◌}
 use Rattle.ioa_value.specs.declared.value.Value.{Value}
 use Rattle.ioa_value.specs.Actions.{act_of}
 use Rattle.ioa_value.specs.Plain.{plain}
 use Rattle.ioa_value.specs.Typing.{HaveTypes}
+use Rattle.ioa_words.specs.Layout.{flat_all}
 use Rattle.ioa_compile.specs.Shown.{entry_code, member_code}
-use Rattle.ioa_system.specs.Systems.{slots_of}
+use Rattle.ioa_system.specs.Systems.{Slots, slots_of}
 use Rattle.ioa_system.proofs.Matching.{Acts, acts}
 use Rattle.ioa_system.proofs.steps.effect_on.Goals as goal
 
@@ -28,3 +29,7 @@ draft_effect-requires-clause-slots c = (acted c).slots_are
 pub draft_effect-requires-clause-arguments : goal.draft_effect-requires-clause-arguments
 draft_effect-requires-clause-arguments c =
     subst (λ (vs : List Value). HaveTypes c.args.entry.now.effect.code.types (map plain vs) c.args.entry.now.effect.args) (sym c.deref.ensures.value) (acted c).arguments
+
+pub draft_effect-requires-clause-words : goal.draft_effect-requires-clause-words
+draft_effect-requires-clause-words c =
+    c.requires.words ∙ ap₂ (λ (s : Slots) (vs : List Value). flat_all s.table (map plain vs)) (sym c.requires.slots) (sym c.deref.ensures.value)

@@ -29,24 +29,24 @@ module _ (h : Held) (codes : List (Vec (Option Part) Global)) (i k : ℕ) (parts
       found (composed_of h) (map (λ (v : Vec (Option Part) Global). v.items) codes) i k parts.items part all
       (omega (arith, few, length-map h.members member_of)) (omega (arith, small, length-map h.invariants invariant_of)) parts_here there
 
-pub enabled-requires-clause-kind : goal.enabled-requires-clause-kind
-enabled-requires-clause-kind c =
+pub enabled_with-requires-clause-kind : goal.enabled_with-requires-clause-kind
+enabled_with-requires-clause-kind c =
     let all = subst (λ h. AreAsked (composed_of h) (map (λ (v : Vec (Option Part) Global). v.items) c.self.inside.codes.items)) c.self.view_is c.self.invariant in
     let here = read c.deref.result.now c.self.inside.codes.items c.args.component c.in-Some.codes.now c.in-Some.ensures.lookup.3.0 c.in-Some.ensures.lookup.1 c.deref.ensures.value in
     let code : c.in-Some-Some.field-0.now ≡ Some c.in-Some-Some.code = search rules in
     let there = read c.deref-2.result.now c.in-Some.codes.now.items c.args.invariant c.in-Some-Some.field-0.now c.in-Some-Some.ensures.lookup.3.0 c.in-Some-Some.ensures.lookup.1 c.deref-2.ensures.value ∙ ap Some code in
     (its c.args.self.now c.self.inside.codes.items c.args.component c.args.invariant c.in-Some.codes.now c.in-Some-Some.code all here there c.requires.there c.requires.asked).asks.kind
 
-pub enabled-requires-clause-result : goal.enabled-requires-clause-result
-enabled-requires-clause-result c =
+pub enabled_with-requires-clause-result : goal.enabled_with-requires-clause-result
+enabled_with-requires-clause-result c =
     let all = subst (λ h. AreAsked (composed_of h) (map (λ (v : Vec (Option Part) Global). v.items) c.self.inside.codes.items)) c.self.view_is c.self.invariant in
     let here = read c.deref.result.now c.self.inside.codes.items c.args.component c.in-Some.codes.now c.in-Some.ensures.lookup.3.0 c.in-Some.ensures.lookup.1 c.deref.ensures.value in
     let code : c.in-Some-Some.field-0.now ≡ Some c.in-Some-Some.code = search rules in
     let there = read c.deref-2.result.now c.in-Some.codes.now.items c.args.invariant c.in-Some-Some.field-0.now c.in-Some-Some.ensures.lookup.3.0 c.in-Some-Some.ensures.lookup.1 c.deref-2.ensures.value ∙ ap Some code in
     (its c.args.self.now c.self.inside.codes.items c.args.component c.args.invariant c.in-Some.codes.now c.in-Some-Some.code all here there c.requires.there c.requires.asked).asks.result
 
-pub enabled-requires-clause-types : goal.enabled-requires-clause-types
-enabled-requires-clause-types c =
+pub enabled_with-requires-clause-types : goal.enabled_with-requires-clause-types
+enabled_with-requires-clause-types c =
     let all = subst (λ h. AreAsked (composed_of h) (map (λ (v : Vec (Option Part) Global). v.items) c.self.inside.codes.items)) c.self.view_is c.self.invariant in
     let here = read c.deref.result.now c.self.inside.codes.items c.args.component c.in-Some.codes.now c.in-Some.ensures.lookup.3.0 c.in-Some.ensures.lookup.1 c.deref.ensures.value in
     let code : c.in-Some-Some.field-0.now ≡ Some c.in-Some-Some.code = search rules in
@@ -54,8 +54,8 @@ enabled-requires-clause-types c =
     let f = its c.args.self.now c.self.inside.codes.items c.args.component c.args.invariant c.in-Some.codes.now c.in-Some-Some.code all here there c.requires.there c.requires.asked in
     (c.requires.state f.member f.member_there).table ∙ sym f.asks.types
 
-pub enabled-requires-clause-slots : goal.enabled-requires-clause-slots
-enabled-requires-clause-slots c =
+pub enabled_with-requires-clause-slots : goal.enabled_with-requires-clause-slots
+enabled_with-requires-clause-slots c =
     let all = subst (λ h. AreAsked (composed_of h) (map (λ (v : Vec (Option Part) Global). v.items) c.self.inside.codes.items)) c.self.view_is c.self.invariant in
     let here = read c.deref.result.now c.self.inside.codes.items c.args.component c.in-Some.codes.now c.in-Some.ensures.lookup.3.0 c.in-Some.ensures.lookup.1 c.deref.ensures.value in
     let code : c.in-Some-Some.field-0.now ≡ Some c.in-Some-Some.code = search rules in
@@ -63,8 +63,8 @@ enabled-requires-clause-slots c =
     let f = its c.args.self.now c.self.inside.codes.items c.args.component c.args.invariant c.in-Some.codes.now c.in-Some-Some.code all here there c.requires.there c.requires.asked in
     same_types f.member (variable_fields f.member.instance.automaton) c.args.state.now.types c.in-Some-Some.code.slots (c.requires.state f.member f.member_there).types f.asks.slots
 
-pub enabled-requires-clause-arguments : goal.enabled-requires-clause-arguments
-enabled-requires-clause-arguments c =
+pub enabled_with-requires-clause-arguments : goal.enabled_with-requires-clause-arguments
+enabled_with-requires-clause-arguments c =
     let all = subst (λ h. AreAsked (composed_of h) (map (λ (v : Vec (Option Part) Global). v.items) c.self.inside.codes.items)) c.self.view_is c.self.invariant in
     let here = read c.deref.result.now c.self.inside.codes.items c.args.component c.in-Some.codes.now c.in-Some.ensures.lookup.3.0 c.in-Some.ensures.lookup.1 c.deref.ensures.value in
     let code : c.in-Some-Some.field-0.now ≡ Some c.in-Some-Some.code = search rules in
