@@ -10,4 +10,5 @@ pub mod ProgramRooms
 pub mod RoomCommits
 pub mod Outcomes
 pub mod Resuming
+pub mod Wishes
 pub mod Attempted

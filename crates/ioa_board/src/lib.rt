@@ -17,6 +17,7 @@ mod planning;
 // Actions that are performed at once.
 mod answer;
 mod attempt;
+mod wish;
 
 // The room, and the reports of its workers.
 mod outcome;
@@ -36,3 +37,4 @@ pub use report::{Report, Why, have_ended};
 pub use room::Room;
 pub use run_err::RunErr;
 pub use verdict::Verdict;
+pub use wish::Wish;

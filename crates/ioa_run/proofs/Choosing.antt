@@ -1,28 +1,27 @@
 -- Which local entry a word picks, and what its proposal gives.
-use Rattle.std.proofs.Common.{◌≡◌, ℕ, ◌+◌, ◌<◌, List, length, map, All, Option, None, Some, sym, ◌∙◌, ap, subst, arith}
+use Rattle.std.proofs.Common.{◌≡◌, ℕ, ◌+◌, ◌<◌, List, length, map, get_or, Option, None, Some, sym, ◌∙◌, ap, arith}
 use Rattle.std.proofs.lemmas.List.{length-map}
 use Rattle.std.specs.Prelude.{slice_get, ◌%◌, ◌≢◌}
 use Rattle.std.specs.Option.{option_map, option_map_or}
-use Rattle.std.proofs.lemmas.List.Elements.{All-filter}
 use Rattle.std.proofs.lemmas.Nat.{mod_below}
 use Rattle.std.proofs.lemmas.Option.{same_Some, slice_get_past}
 use mathlib.Core.Path.{fun_ext}
 use Rattle.ioa_value.specs.Plain.{Val}
-use Rattle.ioa_value.proofs.ItemLemmas.{image_at, item_there}
+use Rattle.ioa_value.proofs.ItemLemmas.{at_map, image_at}
 use Rattle.ioa_value.specs.Actions.{Act}
 use Rattle.ioa_code.specs.Valid.{Part}
 use Rattle.ioa_parts.specs.Proposals.{Left, proposal_of, words_of}
 use Rattle.ioa_tree.specs.Proposing.{Words, idle}
-use Rattle.ioa_tree.specs.Components.{is_local}
 use Rattle.ioa_compile.specs.Programs.{EntryCode}
 use Rattle.ioa_compile.specs.Shown.{entry_code}
 use Rattle.ioa_compile.specs.declared.table.Entry.{Entry}
 use Rattle.ioa_run.specs.Choices.{Chooses, GivesAction}
+use Rattle.ioa_run.specs.Locals.{code_of}
 use Rattle.ioa_run.specs.Proposers.{action_with, by_code, local_entries, tried}
 use Rattle.ioa_run.specs.Tallies.{IsPick, lost_by}
 use Rattle.ioa_run.specs.Turns.{Proposer, after}
+use Rattle.ioa_run.specs.declared.locals.Local.{Local}
 use Rattle.ioa_run.specs.declared.tally.Pick.{Pick}
-use Rattle.ioa_run.proofs.Counting.{got_all}
 
 -- ---- local entries
 
@@ -50,13 +49,12 @@ gives_by e part s words rest r p g l = record {
 }
 
 -- the entry that a word picks
-pub chosen_by : (es : List EntryCode) (s : List Val) (words mid rest : Words) (number : ℕ) (e : EntryCode) (a : Option Act) → number ≡ words 0 % length (local_entries es)
-    → slice_get (local_entries es) number ≡ Some e → mid ≡ after 1 words → GivesAction e s mid a rest → Chooses es s words a rest
+pub chosen_by : (es : List EntryCode) (s : List Val) (words mid rest : Words) (number : ℕ) (e : EntryCode) (a : Option Act) → number ≡ words 0 % length es
+    → slice_get es number ≡ Some e → mid ≡ after 1 words → GivesAction e s mid a rest → Chooses es s words a rest
 chosen_by es s words mid rest number e a n g m h =
     let code : EntryCode → Proposer (List Val) = λ d. by_code d d.propose in
-    let ls : List EntryCode = local_entries es in
-    let there : slice_get (map code ls) (words 0 % length (map code ls)) ≡ Some (code e) =
-    ap (λ k. slice_get (map code ls) (words 0 % k)) (length-map ls code) ∙ ap (slice_get (map code ls)) (sym n) ∙ image_at code ls number e g in
+    let there : slice_get (map code es) (words 0 % length (map code es)) ≡ Some (code e) =
+    ap (λ k. slice_get (map code es) (words 0 % k)) (length-map es code) ∙ ap (slice_get (map code es)) (sym n) ∙ image_at code es number e g in
     record {
       taken = 1 + h.taken;
       chooses = ap (λ o. option_map_or (λ f. f s words 1) o (idle 0)) there ∙ h.gives words 1 (sym m);
@@ -64,44 +62,44 @@ chosen_by es s words mid rest number e a n g m h =
     }
 
 -- without local entries nothing is chosen
-pub none_chosen : (es : List EntryCode) (s : List Val) (words : Words) → length (local_entries es) ≡ 0 → Chooses es s words None words
+pub none_chosen : (es : List EntryCode) (s : List Val) (words : Words) → length es ≡ 0 → Chooses es s words None words
 none_chosen es s words l =
     let code : EntryCode → Proposer (List Val) = λ d. by_code d d.propose in
-    let ls : List EntryCode = local_entries es in
     record {
       taken = 0;
-      chooses = ap (λ o. option_map_or (λ f. f s words 1) o (idle 0)) (slice_get_past (map code ls) (words 0 % length (map code ls)) (omega (arith, length-map ls code, l)));
+      chooses = ap (λ o. option_map_or (λ f. f s words 1) o (idle 0)) (slice_get_past (map code es) (words 0 % length (map code es)) (omega (arith, length-map es code, l)));
       left = fun_ext (λ k. ap words (omega arith));
     }
 
--- what is so of all entries is so of one that is picked
-pub entry_so : (P : EntryCode → Type 0) (es : List EntryCode) (n : ℕ) (e : EntryCode) → All P es → slice_get (local_entries es) n ≡ Some e → P e
-entry_so P es n e h g = got_all P (local_entries es) n e (All-filter (λ d. is_local (Some d.kind)) P es h) g
-
-pub one_there : (es : List EntryCode) (w count : ℕ) → count ≡ length (local_entries es) → count ≢ 0 → slice_get (local_entries es) (w % count) ≡ None → ⊥
-one_there es w count c d e =
-    let i = item_there (local_entries es) (w % count) (subst (λ k. w % count < k) c (mod_below w count (omega (arith, d)))) in
-    let q : Some i.0 ≡ None = sym i.1 ∙ e in
-    cc
-
 -- ---- which entry is picked
 
-pub picks_by : (es : List EntryCode) (s : List Val) (words mid : Words) (number : ℕ) (e : EntryCode) (k : Pick) → number ≡ words 0 % length (local_entries es)
-    → slice_get (local_entries es) number ≡ Some e → mid ≡ after 1 words → k.word ≡ words 0 → k.lost ≡ lost_by e.propose s mid → IsPick es s words k
+-- it is among those that there are
+pub within : (ls : List Local) (w : ℕ) → length ls ≢ 0 → w % length ls < length ls
+within ls w some = mod_below w (length ls) (omega (arith, some))
+
+pub picked_there : (ls : List Local) (w : ℕ) (l : Local) → length ls ≢ 0 → l ≡ get_or ls (w % length ls) l → slice_get (map code_of ls) (w % length ls) ≡ Some (code_of l)
+picked_there ls w l some is = at_map code_of ls (w % length ls) l (within ls w some) is
+
+-- by the first word
+pub picked_by : (ls : List Local) (words : Words) (w : ℕ) → w ≡ words 0 → w % length ls ≡ words 0 % length (map code_of ls)
+picked_by ls words w is = ap (λ x. x % length ls) is ∙ ap (λ k. words 0 % k) (sym (length-map ls code_of))
+
+pub picks_by : (es : List EntryCode) (s : List Val) (words mid : Words) (number : ℕ) (e : EntryCode) (k : Pick) → number ≡ words 0 % length es
+    → slice_get es number ≡ Some e → mid ≡ after 1 words → k.word ≡ words 0 → k.lost ≡ lost_by e.propose s mid → IsPick es s words k
 picks_by es s words mid number e k n here m word lost = record {
   word = λ some. word;
   lost = λ d there.
-      let at : slice_get (local_entries es) number ≡ Some d = ap (slice_get (local_entries es)) n ∙ there in
+      let at : slice_get es number ≡ Some d = ap (slice_get es) n ∙ there in
       let same : e ≡ d = same_Some e d (sym here ∙ at) in
       lost ∙ ap (lost_by e.propose s) m ∙ ap (λ (x : EntryCode). lost_by x.propose s (after 1 words)) same;
 }
 
 -- without local entries there is nothing to pick
-pub none_picked : (es : List EntryCode) (s : List Val) (words : Words) (k : Pick) → length (local_entries es) ≡ 0 → IsPick es s words k
+pub none_picked : (es : List EntryCode) (s : List Val) (words : Words) (k : Pick) → length es ≡ 0 → IsPick es s words k
 none_picked es s words k none = record {
   word = λ some. absurd (some none);
   lost = λ d there.
-      let past = slice_get_past (local_entries es) (words 0 % length (local_entries es)) (omega (arith, none)) in
+      let past = slice_get_past es (words 0 % length es) (omega (arith, none)) in
       let q : Some d ≡ None = sym there ∙ past in
       absurd (cc);
 }

@@ -6,6 +6,7 @@ pub mod Counting
 pub mod Going
 pub mod Settled
 pub mod Choosing
+pub mod LocalSites
 pub mod Filling
 pub mod Acting
 pub mod Wishing

@@ -42,6 +42,8 @@ use Rattle.ioa_compile.specs.contracts.table.Member as Member
 use Rattle.ioa_system.specs.contracts.log.LogEntry as LogEntry
 use Rattle.ioa_board.specs.contracts.board.Board as Board
 use Rattle.ioa_run.specs.contracts.crew.Crew as Crew
+use Rattle.ioa_run.specs.contracts.locals.Local as Local
+use Rattle.ioa_run.specs.contracts.locals.Locals as Locals
 use Rattle.ioa_run.specs.contracts.own_room.OwnRoom as OwnRoom
 use Rattle.ioa_run.specs.contracts.own_room.OwnRoom.TheInside as Inside
 use Rattle.ioa_board.specs.contracts.recorded.Recorded as Recorded
@@ -119,6 +121,12 @@ index_sync = index.the_field_sync Site.the_row site_sync
 program_sync : IsSync Program.the_row
 program_sync = search (types_sync, member_sync, index_sync, crosses, sendable) depth 20
 
+local_sync : (a : NamedLft) → IsSync (Local.the_row a)
+local_sync a = search (entry_sync, site_sync, crosses, sendable) depth 20
+
+locals_sync : (a : NamedLft) → IsSync (Locals.the_row a)
+locals_sync a = search (program_sync, local_sync, crosses, sendable) depth 20
+
 -- ---- rooms
 
 log_entry_send : IsSend (LogEntry.the_field).row
@@ -158,4 +166,4 @@ module _ (a : NamedLft) (T : RattleType) (g : Terms.Ghosts T.Denot) where
   own_room_send = view_send (Inside.the_row a T g) _ _ _ _ inside_send
 
   pub crew_sync : IsSync (Crew.the_row a T g)
-  crew_sync = declared_sync (Crew.the_type a T g) (search (program_sync, sendable), (search (input_sync, sendable), (search sendable, (as_row_sync (Mutex.the_field (OwnRoom.the_row a T g)) (mutex.the_sync _ own_room_send), (as_row_sync AtomicBool.the_field flag.the_field_sync, tt)))))
+  crew_sync = declared_sync (Crew.the_type a T g) (search (program_sync, sendable), (search (input_sync, sendable), (search sendable, (as_row_sync (Locals.the_field a) (locals_sync a), (as_row_sync (Mutex.the_field (OwnRoom.the_row a T g)) (mutex.the_sync _ own_room_send), (as_row_sync AtomicBool.the_field flag.the_field_sync, tt))))))

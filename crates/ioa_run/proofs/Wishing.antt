@@ -22,7 +22,7 @@ use Rattle.ioa_system.proofs.Participating.{taken_some}
 use Rattle.ioa_run.specs.Choices.{AreOfState, Chooses, IsOfState}
 use Rattle.ioa_board.specs.Histories.{count}
 use Rattle.ioa_board.specs.ProgramRooms.{ProgramRoom, new_in}
-use Rattle.ioa_run.specs.Proposers.{proposers, proposers_of, tried}
+use Rattle.ioa_run.specs.Proposers.{local_entries, proposers, proposers_of, tried}
 use Rattle.ioa_run.specs.Turning.{HasPerformed, Wishes}
 use Rattle.ioa_run.specs.Turns.{after, next_choice, next_input}
 use Rattle.ioa_run.proofs.Turned.{changed_alike, changed_none, changed_set}
@@ -90,7 +90,7 @@ over_copy p ns w n m h t e f =
 -- ---- what is meant
 
 pub component_wishes : (r : ProgramRoom) (ws ws' : List Words) (w : ℕ) (m : MemberCode) (s : List Val) (words rest : Words) (o : Option Act) → slice_get r.program.members w ≡ Some m
-    → slice_get r.board.states w ≡ Some s → slice_get ws w ≡ Some words → ws' ≡ slice_set ws w rest → Chooses m.entries s words o rest → Wishes r ws w o ws'
+    → slice_get r.board.states w ≡ Some s → slice_get ws w ≡ Some words → ws' ≡ slice_set ws w rest → Chooses (local_entries m.entries) s words o rest → Wishes r ws w o ws'
 component_wishes r ws ws' w m s words rest o e f g h c = record {
   taken = c.taken;
   wish = λ _.

@@ -7,7 +7,7 @@ use Rattle.ioa_code.specs.declared.instr.PartKind.TheVariants.{Propose}
 use Rattle.ioa_parts.specs.Nodes.{Node}
 use Rattle.ioa_tree.specs.Proposing.{Words}
 use Rattle.ioa_compile.specs.Programs.{EntryCode}
-use Rattle.ioa_run.specs.Proposers.{by_code, local_entries, tried}
+use Rattle.ioa_run.specs.Proposers.{by_code, tried}
 use Rattle.ioa_run.specs.Turns.{after, chosen}
 
 -- the code is a proposal's, over the state's types
@@ -26,8 +26,8 @@ pub record GivesAction (e : EntryCode) (s : List Val) (words : Words) (a : Optio
   pub gives : (earlier : Words) (n : ℕ) → after n earlier ≡ words → by_code e e.propose s earlier n ≡ tried a (n + taken)
   pub left : rest ≡ after taken words
 
--- the component of these entries chooses this action or none, and leaves these words
+-- the component with these local entries chooses this action or none, and leaves these words
 pub record Chooses (es : List EntryCode) (s : List Val) (words : Words) (a : Option Act) (rest : Words) : Type 0 where
   pub taken : ℕ
-  pub chooses : chosen (map (λ e. by_code e e.propose) (local_entries es)) s words ≡ tried a taken
+  pub chooses : chosen (map (λ e. by_code e e.propose) es) s words ≡ tried a taken
   pub left : rest ≡ after taken words

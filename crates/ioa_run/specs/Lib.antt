@@ -5,6 +5,7 @@ pub mod Seeds
 pub mod Turns
 pub mod Attempts
 pub mod Proposers
+pub mod Locals
 pub mod Resuming
 pub mod Alone
 pub mod Choices

@@ -74,10 +74,10 @@ abbrev pub lost_by : Option Part → List Val → Words → Lost
 lost_by None s words = Lost.NoProposal
 lost_by (Some part) s words = lost_from (proposal_faults part s words) (proposal_of part s words)
 
--- the first word picks the entry, whose proposal goes on with the words after it
+-- the first word picks one of these local entries, whose proposal goes on with the words after it
 pub record IsPick (es : List EntryCode) (s : List Val) (words : Words) (k : Pick) : Type 0 where
-  pub word : length (local_entries es) ≢ 0 → k.word ≡ words 0
-  pub lost : (e : EntryCode) → slice_get (local_entries es) (words 0 % length (local_entries es)) ≡ Some e → k.lost ≡ lost_by e.propose s (after 1 words)
+  pub word : length es ≢ 0 → k.word ≡ words 0
+  pub lost : (e : EntryCode) → slice_get es (words 0 % length es) ≡ Some e → k.lost ≡ lost_by e.propose s (after 1 words)
 
 -- ---- beside the reports
 

@@ -1,11 +1,12 @@
 //! Runs on one thread, whose history the words and the script decide.
 
-ghost use Rattle.std.specs.Prelude.{◌≡◌, ◌+◌, ◌<◌, ◌≤◌, [], All, IfOk, IsErrOf, false, length, map, replicate, slice_get};
+ghost use Rattle.std.specs.Prelude.{◌≡◌, ◌+◌, ◌<◌, ◌≤◌, [], All, IfOk, IfSome, IsErrOf, false, length, map, replicate, slice_get};
 ghost use Rattle.std.specs.Option.{option_map};
 ghost use Rattle.ioa_value.specs.Actions.{act_of};
 ghost use Rattle.ioa_compile.specs.Tables.{tabled};
 ghost use Rattle.ioa_system.specs.Logs.{log_end, logged};
 ghost use Rattle.ioa_board.specs.ProgramRooms.{IsInput, environment, place, room_on};
+ghost use Rattle.ioa_board.specs.Wishes.{IsWishOf, act_meant};
 ghost use Rattle.ioa_run.specs.Alone.{IsAlone, IsAloneFrom, IsAloneSince, IsOutcome, IsOutcomeFrom, NoMemory, Refuses, RefusesResumed, most_turns};
 ghost use Rattle.ioa_board.specs.declared.run_err.RunErr.{RunErr};
 ghost use Rattle.ioa_board.specs.Outcomes.{HaveEnded};
@@ -16,9 +17,10 @@ ghost use Rattle.ioa_run.specs.Turning.{Acts, HasPerformed, Takes, Wishes};
 
 use crate::beginning::{check, resumed_room};
 use crate::choice::choose;
+use crate::locals::Locals;
 use crate::tally::{Pick, Tally, blank_tallies, follow, report_of};
 use crate::turn::{TurnEnd, act, next_input};
-use ioa_board::{Outcome, Room, RunErr, Why};
+use ioa_board::{Outcome, Room, RunErr, Why, Wish};
 use ioa_compile::Program;
 use ioa_node::{Words, Workspace};
 use ioa_system::{Log, Stepper};
@@ -92,7 +94,7 @@ fn run_in<'p, W: Words + Drop>(
     room: Room<'p>,
     turns: u64,
     words: Vec<W>,
-    inputs: &[Action],
+    inputs: &'p [Action],
     tallies: &mut Vec<Tally>,
 ) -> Result<Outcome, OutOfMemory>
     requires blank { map tally_of tallies.old.items ≡ map blank room.program.members }
@@ -107,9 +109,11 @@ fn run_in<'p, W: Words + Drop>(
 {
     let mut room = room;
     let mut words = words;
-    let mut ended = none_ended(alloc, room.board().program().members().len())?;
+    let program = room.board().program();
+    let mut ended = none_ended(alloc, program.members().len())?;
+    let locals = Locals::of(alloc, program)?;
     take_turns(
-        alloc, &mut room, inputs, turns, &mut words, &mut ended, tallies,
+        alloc, &mut room, &locals, inputs, turns, &mut words, &mut ended, tallies,
     );
     dismiss(&mut room, &ended);
     Ok(room.finish())
@@ -131,13 +135,15 @@ fn none_ended(alloc: Global, components: usize) -> Result<Vec<bool>, OutOfMemory
 fn take_turns<'p, W: Words>(
     alloc: Global,
     room: &mut Room<'p>,
-    inputs: &[Action],
+    locals: &Locals<'p>,
+    inputs: &'p [Action],
     turns: u64,
     words: &mut [W],
     ended: &mut [bool],
     tallies: &mut Vec<Tally>,
 )
     requires tallied { AreTallied room.old (map tally_of tallies.old.items) }
+    requires locals { locals.now ≡ room.old.program }
     requires inputs { room.old.inputs ≡ map act_of inputs.now }
     requires fine { All (IsInput (tabled room.old.program)) room.old.inputs }
     requires words { length words.old ≡ length room.old.program.members }
@@ -147,7 +153,16 @@ fn take_turns<'p, W: Words>(
 {
     let mut stepper = Stepper::new(alloc);
     for _ in 0..turns {
-        round(alloc, &mut stepper, room, inputs, words, ended, tallies);
+        round(
+            alloc,
+            &mut stepper,
+            room,
+            locals,
+            inputs,
+            words,
+            ended,
+            tallies,
+        );
     }
 }
 
@@ -156,12 +171,14 @@ fn round<'p, W: Words>(
     alloc: Global,
     stepper: &mut Stepper<'p>,
     room: &mut Room<'p>,
-    inputs: &[Action],
+    locals: &Locals<'p>,
+    inputs: &'p [Action],
     words: &mut [W],
     ended: &mut [bool],
     tallies: &mut Vec<Tally>,
 )
     requires tallied { AreTallied room.old (map tally_of tallies.old.items) }
+    requires locals { locals.now ≡ room.old.program }
     requires inputs { room.old.inputs ≡ map act_of inputs.now }
     requires fine { All (IsInput (tabled room.old.program)) room.old.inputs }
     requires words { length words.old ≡ length room.old.program.members }
@@ -171,7 +188,7 @@ fn round<'p, W: Words>(
 {
     for who in 0..ended.len() {
         if !ended[who] {
-            let end = turn(alloc, stepper, room, inputs, words, who, tallies);
+            let end = turn(alloc, stepper, room, locals, inputs, words, who, tallies);
             ended[who] = end.is_last();
         }
     }
@@ -182,12 +199,14 @@ fn turn<'p, W: Words>(
     alloc: Global,
     stepper: &mut Stepper<'p>,
     room: &mut Room<'p>,
-    inputs: &[Action],
+    locals: &Locals<'p>,
+    inputs: &'p [Action],
     words: &mut [W],
     who: usize,
     tallies: &mut Vec<Tally>,
 ) -> TurnEnd
     requires tallied { AreTallied room.old (map tally_of tallies.old.items) }
+    requires locals { locals.now ≡ room.old.program }
     requires inputs { room.old.inputs ≡ map act_of inputs.now }
     requires fine { All (IsInput (tabled room.old.program)) room.old.inputs }
     requires words { length words.old ≡ length room.old.program.members }
@@ -197,10 +216,11 @@ fn turn<'p, W: Words>(
 {
     let performed = room.reports()[who].committed;
     let mut pick = Pick::none();
-    let Ok(action) = wish(
+    let Ok(meant) = wish(
         alloc,
         stepper.workspace(),
         room,
+        locals,
         inputs,
         words,
         who,
@@ -210,7 +230,7 @@ fn turn<'p, W: Words>(
         room.leave(who, Why::Memory);
         return TurnEnd::NoMemory;
     };
-    let end = act_counted(stepper, room, who, action, pick, tallies);
+    let end = act_counted(stepper, room, who, meant, pick, tallies);
     if end.is_refused() {
         room.leave(who, Why::Memory);
     }
@@ -222,54 +242,53 @@ fn act_counted<'p>(
     stepper: &mut Stepper<'p>,
     room: &mut Room<'p>,
     who: usize,
-    action: Option<Action>,
+    meant: Option<Wish<'_>>,
     pick: Pick,
     tallies: &mut Vec<Tally>,
 ) -> TurnEnd
     requires tallied { AreTallied room.old (map tally_of tallies.old.items) }
-    requires script { who ≡ environment room.old → option_map act_of action ≡ slice_get room.old.inputs (place room.old) }
+    requires known { IfSome meant (IsWishOf room.old.program) }
+    requires script { who ≡ environment room.old → option_map act_meant meant ≡ slice_get room.old.inputs (place room.old) }
     requires inputs { All (IsInput (tabled room.old.program)) room.old.inputs }
-    ensures acts { Acts room.old who (option_map act_of action) result room.new }
+    ensures acts { Acts room.old who (option_map act_meant meant.entry) result room.new }
     ensures tallied { AreTallied room.new (map tally_of tallies.new.items) }
 {
     let before = report_of(room, who);
-    let end = act(stepper, room, who, action);
+    let end = act(stepper, room, who, meant);
     follow(tallies, room, who, pick, before);
     end
 }
 
 /// What a worker that has performed so many actions means to do: a component by its state on the board, which is lent, and by its words, and which entry it picks;
 /// the environment by its script.
-fn wish<W: Words>(
+fn wish<'p, W: Words>(
     alloc: Global,
     workspace: &mut Workspace,
     room: &Room<'_>,
-    inputs: &[Action],
+    locals: &Locals<'p>,
+    inputs: &'p [Action],
     words: &mut [W],
     who: usize,
     performed: usize,
     pick: &mut Pick,
-) -> Result<Option<Action>, OutOfMemory>
+) -> Result<Option<Wish<'p>>, OutOfMemory>
+    requires locals { locals.now ≡ room.now.program }
     requires inputs { room.now.inputs ≡ map act_of inputs.now }
     requires words { length words.old ≡ length room.now.program.members }
     requires worker { who < length room.now.program.members + 1 }
     requires performed { HasPerformed room.now who performed }
-    ensures { IfOk result (λ r. Wishes room.now (map W.stream words.old) who (option_map act_of r) (map W.stream words.new)) }
+    ensures wishes { IfOk result (λ r. Wishes room.now (map W.stream words.old) who (option_map act_meant r) (map W.stream words.new)) }
+    ensures known { IfOk result (λ r. IfSome r (IsWishOf room.now.program)) }
 {
-    let members = room.board().program().members();
+    let program = locals.program();
+    let members = program.members();
     if who < members.len() {
         let state = &room.board().states()[who];
-        let action = choose(
-            alloc,
-            workspace,
-            &members[who].entries,
-            state,
-            &mut words[who],
-            pick,
-        )?;
-        Ok(action)
+        let own = locals.of_component(who);
+        let meant = choose(alloc, workspace, own, state, &mut words[who], pick)?;
+        Ok(meant)
     } else {
-        next_input(alloc, inputs, performed)
+        next_input(alloc, program, inputs, performed)
     }
 }
 

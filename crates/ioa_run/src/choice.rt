@@ -1,107 +1,77 @@
 //! What a component means to do next: its words decide what its automaton leaves open.
 
-ghost use Rattle.std.specs.Prelude.{◌≡◌, List, IfOk, IfSome, IsOk, length, map};
+ghost use Rattle.std.specs.Prelude.{◌≡◌, All, List, IfOk, IfSome, IsOk, length, map};
 ghost use Rattle.std.specs.Bool.{OnTrue};
 ghost use Rattle.std.specs.Option.{option_map};
-ghost use Rattle.std.specs.Prelude.{slice_get};
-ghost use Rattle.ioa_value.specs.Actions.{act_of};
 ghost use Rattle.ioa_value.specs.Plain.{Val, plain};
 ghost use Rattle.ioa_value.specs.Positions.{domain_of};
-ghost use Rattle.ioa_tree.specs.Components as components;
-ghost use Rattle.ioa_compile.specs.Shown.{entry_code, member_code};
-ghost use Rattle.ioa_run.specs.Proposers.{action_with, filled, local_entries};
+ghost use Rattle.ioa_compile.specs.Programs.{Prog};
+ghost use Rattle.ioa_board.specs.Wishes.{IsWishOf, act_meant};
+ghost use Rattle.ioa_run.specs.Locals.{HasSites, code_of};
+ghost use Rattle.ioa_run.specs.Proposers.{action_with, filled};
 ghost use Rattle.ioa_run.specs.Choices.{AreOfState, Chooses, GivesAction, IsOfState};
 ghost use Rattle.ioa_parts.specs.Proposals.{values_in};
 ghost use Rattle.ioa_run.specs.Tallies.{IsPick, lost_by};
 
+use crate::locals::Local;
 use crate::tally::{Lost, Pick};
-use ioa_compile::Entry;
+use ioa_board::Wish;
 use ioa_node::{NodeState, Proposal, Words, Workspace, proposal_with};
-use ioa_tree::Kind;
-use ioa_value::{Action, OutOfMemory, Position, Value};
+use ioa_value::{OutOfMemory, Position, Value};
 use std::alloc::Global;
 use std::mem;
 
-/// The action that a component of these entries means to perform in this state: one word picks one of its local entries, whose proposal
-/// goes on with the words after it. None where it has no local entry, which takes no word, or the proposal gives none. Behind it the pick tells which entry it is,
+/// The action that a component with these local entries means to perform in this state: one word picks one of them, whose proposal goes on
+/// with the words after it. None where it has no local entry, which takes no word, or the proposal gives none. Behind it the pick tells which entry it is,
 /// and why the turn is idle, if it is.
 ///
 /// It asks that the entries' proposals are over the state's types.
-pub(crate) fn choose<W: Words>(
+pub(crate) fn choose<'p, W: Words>(
     alloc: Global,
     workspace: &mut Workspace,
-    entries: &[Entry],
+    locals: &[Local<'p>],
     state: &NodeState,
     words: &mut W,
     pick: &mut Pick,
-) -> Result<Option<Action>, OutOfMemory>
-    requires { AreOfState state.now (map entry_code entries.now) }
-    ensures chosen { IfOk result (λ r. Chooses (map entry_code entries.now) state.now.values (W.stream words.old) (option_map act_of r) (W.stream words.new)) }
-    ensures picks { IsOk result → IsPick (map entry_code entries.now) state.now.values (W.stream words.old) pick.new }
+) -> Result<Option<Wish<'p>>, OutOfMemory>
+    requires { AreOfState state.now (map code_of locals.now) }
+    ensures chosen { IfOk result (λ r. Chooses (map code_of locals.now) state.now.values (W.stream words.old) (option_map act_meant r) (W.stream words.new)) }
+    ensures known { IfOk result (λ r. (p : Prog) → All (HasSites p) locals.now → IfSome r (IsWishOf p)) }
+    ensures picks { IsOk result → IsPick (map code_of locals.now) state.now.values (W.stream words.old) pick.new }
 {
-    let count = local_count(entries);
+    let count = locals.len();
     if count == 0 {
         return Ok(None);
     }
     pick.word = words.next();
     let number = pick.word as usize % count;
-    match local_entry(entries, number) {
-        Some(entry) => propose_by(alloc, workspace, entry, state, words, &mut pick.lost),
-        None => Ok(None),
-    }
-}
-
-/// How many entries their component performs.
-pub(crate) fn local_count(entries: &[Entry]) -> usize
-    ensures { result ≡ length (local_entries (map entry_code entries.now)) }
-{
-    let mut count = 0;
-    for entry in entries {
-        if entry.kind.is_local() {
-            count += 1;
-        }
-    }
-    count
-}
-
-/// The entry of this number among those that their component performs.
-fn local_entry<'a>(entries: &'a [Entry], number: usize) -> Option<&'a Entry>
-    ensures { option_map (λ e. entry_code e.now) result ≡ slice_get (local_entries (map entry_code entries.now)) number }
-{
-    let mut before = number;
-    for entry in entries {
-        if entry.kind.is_local() {
-            if before == 0 {
-                return Some(entry);
-            }
-            before -= 1;
-        }
-    }
-    None
+    let local = &locals[number];
+    propose_by(alloc, workspace, local, state, words, &mut pick.lost)
 }
 
 /// The action that the entry proposes, and why a turn is idle in which it is tried.
-fn propose_by<W: Words>(
+fn propose_by<'p, W: Words>(
     alloc: Global,
     workspace: &mut Workspace,
-    entry: &Entry,
+    local: &Local<'p>,
     state: &NodeState,
     words: &mut W,
     lost: &mut Lost,
-) -> Result<Option<Action>, OutOfMemory>
-    requires { IfSome (entry_code entry.now).propose (IsOfState state.now) }
-    ensures gives { IfOk result (λ r. GivesAction (entry_code entry.now) state.now.values (W.stream words.old) (option_map act_of r) (W.stream words.new)) }
-    ensures lost { IsOk result → lost.new ≡ lost_by (entry_code entry.now).propose state.now.values (W.stream words.old) }
+) -> Result<Option<Wish<'p>>, OutOfMemory>
+    requires { IfSome (code_of local.now).propose (IsOfState state.now) }
+    ensures gives { IfOk result (λ r. GivesAction (code_of local.now) state.now.values (W.stream words.old) (option_map act_meant r) (W.stream words.new)) }
+    ensures known { IfOk result (λ r. (p : Prog) → HasSites p local.now → IfSome r (IsWishOf p)) }
+    ensures lost { IsOk result → lost.new ≡ lost_by (code_of local.now).propose state.now.values (W.stream words.old) }
 {
     *lost = Lost::NoProposal;
-    let Some(code) = &entry.propose else {
+    let Some(code) = &local.entry.propose else {
         return Ok(None);
     };
     match proposal_with(alloc, workspace, code, state, words)? {
         Proposal::Values(values) => {
             *lost = Lost::NotEnabled;
-            let action = action_of(alloc, entry, values)?;
-            Ok(Some(action))
+            let wish = wish_for(alloc, local, values)?;
+            Ok(Some(wish))
         }
         Proposal::Nothing => Ok(None),
         Proposal::Faulted => {
@@ -111,13 +81,21 @@ fn propose_by<W: Words>(
     }
 }
 
-/// The action of the entry with these values of its parameters.
-fn action_of(alloc: Global, entry: &Entry, values: Vec<Value>) -> Result<Action, OutOfMemory>
-    ensures { IfOk result (λ a. act_of a ≡ action_with (entry_code entry.now) (values_in values)) }
+/// The wish for the action of the entry with these values of its parameters.
+fn wish_for<'p>(
+    alloc: Global,
+    local: &Local<'p>,
+    values: Vec<Value>,
+) -> Result<Wish<'p>, OutOfMemory>
+    ensures act { IfOk result (λ w. act_meant w ≡ action_with (code_of local.now) (values_in values)) }
+    ensures known { IfOk result (λ w. (p : Prog) → HasSites p local.now → IsWishOf p w) }
 {
-    Ok(Action {
-        name: entry.name.clone()?,
-        vals: fill(alloc, &entry.positions, values)?,
+    let entry = local.entry;
+    let vals = fill(alloc, &entry.positions, values)?;
+    Ok(Wish {
+        name: entry.name.as_str(),
+        sites: local.sites,
+        vals,
     })
 }
 

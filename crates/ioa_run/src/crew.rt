@@ -6,6 +6,7 @@ ghost use Rattle.ioa_system.specs.Systems.{slot_types, types_of};
 ghost use Rattle.ioa_run.specs.Alone.{IsOutcomeFrom};
 ghost use Rattle.ioa_run.specs.Tallies.{AreAgreeing, AreTallied, tally_of};
 
+use crate::locals::Locals;
 use crate::own_room::{OwnRoom, Terms};
 use crate::tally::{Pick, Tally};
 use ioa_board::{Outcome, Plan, Room, Verdict, Why};
@@ -15,7 +16,7 @@ use ioa_value::{Action, OutOfMemory};
 use std::sync::atomic::{AtomicBool, Ordering};
 use std::sync::{Mutex, Wait};
 
-/// What the threads of a run share: what the run is of, the room under its lock, and whether the run is cancelled.
+/// What the threads of a run share: what the run is of, the local entries of its components, the room under its lock, and whether the run is cancelled.
 ///
 /// Each function that takes the lock gives it back before it answers.
 #[derive(Drop)]
@@ -23,9 +24,11 @@ pub(crate) struct Crew<'p, T: Terms> {
     pub program: &'p Program,
     pub inputs: &'p [Action],
     pub turns: u64,
+    pub locals: Locals<'p>,
     room: Mutex<OwnRoom<'p, T>>,
     cancelled: AtomicBool,
     ghost own: { program.now ≡ T.program },
+    ghost its: { locals ≡ T.program },
 }
 
 impl<'p, T: Terms> Crew<'p, T> {
@@ -34,10 +37,12 @@ impl<'p, T: Terms> Crew<'p, T> {
         program: &'p Program,
         inputs: &'p [Action],
         turns: u64,
+        locals: Locals<'p>,
         room: Room<'p>,
         tallies: Vec<Tally>,
     ) -> Crew<'p, T>
         requires own { program.now ≡ T.program }
+        requires its { locals ≡ T.program }
         requires program { room.program ≡ T.program }
         requires inputs { room.inputs ≡ T.inputs }
         requires turns { room.turns ≡ T.turns }
@@ -49,6 +54,7 @@ impl<'p, T: Terms> Crew<'p, T> {
             program,
             inputs,
             turns,
+            locals,
             room: Mutex::new(room),
             cancelled: AtomicBool::new(false),
         }

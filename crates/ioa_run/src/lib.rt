@@ -10,6 +10,7 @@ mod schedule;
 // How runs begin, and what workers mean to do.
 mod beginning;
 mod choice;
+mod locals;
 mod seeded;
 mod tally;
 
@@ -31,7 +32,7 @@ pub use alone::{resume_alone, run_alone};
 pub use event::Event;
 pub use gate::{Gate, OpenGate, Point};
 pub use ioa_board::{
-    Answer, Board, Outcome, Plan, Planned, Recorded, Report, Room, RunErr, Verdict, Why,
+    Answer, Board, Outcome, Plan, Planned, Recorded, Report, Room, RunErr, Verdict, Why, Wish,
 };
 pub use laws::{
     attempts_answer, copies_answer, histories_are_the_subjects, logs_resume, one_play,

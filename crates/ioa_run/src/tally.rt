@@ -6,7 +6,7 @@ ghost use Rattle.ioa_run.specs.Tallies as spec;
 ghost use Rattle.ioa_run.specs.Tallies.{followed, no_tries, report_at, tallied, tally_of, with_lost, with_stale};
 ghost use Rattle.ioa_run.specs.Turns.{changed};
 
-use crate::choice::local_count;
+use crate::locals::local_count;
 use ioa_board::{Report, Room};
 use ioa_compile::Member;
 use ioa_value::OutOfMemory;

@@ -15,6 +15,7 @@ ghost use Rattle.ioa_run.specs.TalliedRuns.{IsTallied};
 use crate::beginning::{check, resumed_room};
 use crate::crew::Crew;
 use crate::gate::Gate;
+use crate::locals::Locals;
 use crate::own_room::Terms;
 use crate::tally::{Tally, blank_tallies};
 use crate::worker::{Source, Worker};
@@ -119,7 +120,8 @@ fn run_on<'p, T: Terms + Send, R: Threads + Wait + Sync, W: Words + Send + Drop,
     ensures tallied { IfOk result (λ o. IsTallied T.program T.before o tallies.new.items) }
 {
     let blank = blank_tallies(alloc, program.members())?;
-    let crew: Crew<'_, T> = Crew::of(program, inputs, turns, room, blank);
+    let locals = Locals::of(alloc, program)?;
+    let crew: Crew<'_, T> = Crew::of(program, inputs, turns, locals, room, blank);
     if !work_all(rt, alloc, &crew, words, gate) {
         return Err(RunErr::Threads);
     }

@@ -1,15 +1,17 @@
 //! Turns on one thread, from what a worker means to do to whether it goes on.
 
-ghost use Rattle.std.specs.Prelude.{◌≡◌, ◌↔◌, All, IfOk, IsTrue, Some, map, slice_get};
+ghost use Rattle.std.specs.Prelude.{◌≡◌, ◌↔◌, All, IfOk, IfSome, IsTrue, Some, map, slice_get};
 ghost use Rattle.std.specs.Option.{option_map};
 ghost use Rattle.ioa_value.specs.Actions.{act_of};
 ghost use Rattle.ioa_compile.specs.Tables.{tabled};
 ghost use Rattle.ioa_board.specs.ProgramRooms.{IsInput, environment, place};
 ghost use Rattle.ioa_run.specs.declared.turn.TurnEnd.TheVariants as turn_ends;
 ghost use Rattle.ioa_board.specs.Attempted.{IsInScript};
+ghost use Rattle.ioa_board.specs.Wishes.{IsWishOf, act_meant};
 ghost use Rattle.ioa_run.specs.Turning.{Acts, end_of, ends};
 
-use ioa_board::{Answer, Room};
+use ioa_board::{Answer, Room, Wish};
+use ioa_compile::Program;
 use ioa_system::Stepper;
 use ioa_value::{Action, OutOfMemory};
 use std::alloc::Global;
@@ -52,14 +54,15 @@ pub(crate) fn act<'p>(
     stepper: &mut Stepper<'p>,
     room: &mut Room<'p>,
     who: usize,
-    action: Option<Action>,
+    meant: Option<Wish<'_>>,
 ) -> TurnEnd
-    requires script { who ≡ environment room.old → option_map act_of action ≡ slice_get room.old.inputs (place room.old) }
+    requires known { IfSome meant (IsWishOf room.old.program) }
+    requires script { who ≡ environment room.old → option_map act_meant meant ≡ slice_get room.old.inputs (place room.old) }
     requires inputs { All (IsInput (tabled room.old.program)) room.old.inputs }
-    ensures { Acts room.old who (option_map act_of action) result room.new }
+    ensures { Acts room.old who (option_map act_meant meant.entry) result room.new }
 {
-    match action {
-        Some(action) => attempt(stepper, room, who, action),
+    match meant {
+        Some(wish) => attempt(stepper, room, who, wish),
         None => {
             room.idle(who);
             TurnEnd::GoesOn
@@ -72,12 +75,13 @@ fn attempt<'p>(
     stepper: &mut Stepper<'p>,
     room: &mut Room<'p>,
     who: usize,
-    action: Action,
+    wish: Wish<'_>,
 ) -> TurnEnd
-    requires { IsInScript room.old who (act_of action) }
-    ensures { Acts room.old who (Some (act_of action)) result room.new }
+    requires known { IsWishOf room.old.program wish }
+    requires script { IsInScript room.old who (act_meant wish) }
+    ensures { Acts room.old who (Some (act_meant wish.entry)) result room.new }
 {
-    match room.attempt(stepper, who, action) {
+    match room.attempt(stepper, who, wish) {
         Ok(answer) => end_by(answer),
         Err(_) => TurnEnd::NoMemory,
     }
@@ -99,16 +103,19 @@ fn end_by(answer: Answer) -> TurnEnd
     }
 }
 
-/// The next action of the script, of which so many are performed.
-pub(crate) fn next_input(
+/// The next action of the program's script, of which so many are performed.
+pub(crate) fn next_input<'a>(
     alloc: Global,
-    inputs: &[Action],
+    program: &'a Program,
+    inputs: &'a [Action],
     performed: usize,
-) -> Result<Option<Action>, OutOfMemory>
-    ensures { IfOk result (λ r. option_map act_of r ≡ slice_get (map act_of inputs.now) performed) }
+) -> Result<Option<Wish<'a>>, OutOfMemory>
+    ensures next { IfOk result (λ r. option_map act_meant r ≡ slice_get (map act_of inputs.now) performed) }
+    ensures known { IfOk result (λ r. IfSome r (IsWishOf program.now)) }
 {
     if performed < inputs.len() {
-        Ok(Some(inputs[performed].try_copy(alloc)?))
+        let wish = Wish::of(alloc, program, &inputs[performed])?;
+        Ok(Some(wish))
     } else {
         Ok(None)
     }

@@ -2,8 +2,10 @@
 
 ghost use Rattle.std.specs.Prelude.{◌≡◌, IfOk, IfSome};
 ghost use Rattle.ioa_value.specs.Actions.{act_of};
+ghost use Rattle.ioa_compile.specs.Sites.{sites_of};
 ghost use Rattle.ioa_run.specs.declared.gate.Point.TheVariants as points;
 ghost use Rattle.ioa_board.specs.Planning.{Assesses, IfReady, IsOf};
+ghost use Rattle.ioa_board.specs.Wishes.{IsWishOf};
 ghost use Rattle.ioa_run.specs.Points.{EndsAt, IsEnd};
 
 use crate::choice::choose;
@@ -12,8 +14,9 @@ use crate::gate::{Gate, Point};
 use crate::own_room::Terms;
 use crate::tally::Pick;
 use crate::turn::next_input;
-use ioa_board::{Assessed, Plan, Planned, Verdict, Why, assess, plan_by};
+use ioa_board::{Assessed, Plan, Planned, Verdict, Why, Wish, assess, plan_by};
 use ioa_node::{NodeState, Words, Workspace};
+use ioa_sites::Site;
 use ioa_system::Participation;
 use ioa_value::{Action, OutOfMemory};
 use std::alloc::Global;
@@ -69,8 +72,9 @@ impl<'a, 'p, R: Wait, T: Terms, G: Gate> Worker<'a, 'p, R, T, G> {
         ensures { IfOk result (λ r. IfSome r IsEnd) }
     {
         let mut pick = Pick::none();
-        match self.wish(workspace, source, &mut pick)? {
-            Some(action) => self.attempt(action, pick),
+        let meant = self.wish(workspace, source, &mut pick)?;
+        match meant {
+            Some(wish) => self.attempt(wish, pick),
             None => Ok(Some(self.idle(pick))),
         }
     }
@@ -81,7 +85,9 @@ impl<'a, 'p, R: Wait, T: Terms, G: Gate> Worker<'a, 'p, R, T, G> {
         workspace: &mut Workspace,
         source: &mut Source<W>,
         pick: &mut Pick,
-    ) -> Result<Option<Action>, OutOfMemory> {
+    ) -> Result<Option<Wish<'p>>, OutOfMemory>
+        ensures { IfOk result (λ r. IfSome r (IsWishOf T.program)) }
+    {
         match source {
             Source::Words(words) => self.choice(workspace, words, pick),
             Source::Script => self.next_of_script(),
@@ -89,9 +95,11 @@ impl<'a, 'p, R: Wait, T: Terms, G: Gate> Worker<'a, 'p, R, T, G> {
     }
 
     /// The next action of the script, or nothing behind its end.
-    fn next_of_script(&self) -> Result<Option<Action>, OutOfMemory> {
+    fn next_of_script(&self) -> Result<Option<Wish<'p>>, OutOfMemory>
+        ensures { IfOk result (λ r. IfSome r (IsWishOf T.program)) }
+    {
         let place = self.crew.place(self.rt);
-        next_input(self.alloc, self.crew.inputs, place)
+        next_input(self.alloc, self.crew.program, self.crew.inputs, place)
     }
 
     /// What a component means to do by a copy of its own state; a number past the components' means nothing.
@@ -100,27 +108,24 @@ impl<'a, 'p, R: Wait, T: Terms, G: Gate> Worker<'a, 'p, R, T, G> {
         workspace: &mut Workspace,
         words: &mut W,
         pick: &mut Pick,
-    ) -> Result<Option<Action>, OutOfMemory> {
+    ) -> Result<Option<Wish<'p>>, OutOfMemory>
+        ensures { IfOk result (λ r. IfSome r (IsWishOf T.program)) }
+    {
         let members = self.crew.program.members();
         if self.who >= members.len() {
             return Ok(None);
         }
         let own = self.crew.copy(self.rt, &[self.who])?;
-        choose(
-            self.alloc,
-            workspace,
-            &members[self.who].entries,
-            &own[0],
-            words,
-            pick,
-        )
+        let locals = self.crew.locals.of_component(self.who);
+        choose(self.alloc, workspace, locals, &own[0], words, pick)
     }
 
     /// Plans the action and commits the plan, with the gate between.
-    fn attempt(&self, action: Action, pick: Pick) -> Result<Option<Point>, OutOfMemory>
+    fn attempt(&self, wish: Wish<'p>, pick: Pick) -> Result<Option<Point>, OutOfMemory>
+        requires { IsWishOf T.program wish }
         ensures { IfOk result (λ r. IfSome r IsEnd) }
     {
-        let Planned::Ready(plan) = self.plan(action)? else {
+        let Planned::Ready(plan) = self.plan(wish)? else {
             return Ok(Some(self.idle(pick)));
         };
         self.gate.reach(self.who, Point::Planned);
@@ -128,18 +133,27 @@ impl<'a, 'p, R: Wait, T: Terms, G: Gate> Worker<'a, 'p, R, T, G> {
     }
 
     /// The worker's plan for the action, by copies of the participants' states as they are now: others may have committed since it was chosen.
-    fn plan(&self, action: Action) -> Result<Planned<'p>, OutOfMemory>
+    fn plan(&self, wish: Wish<'p>) -> Result<Planned<'p>, OutOfMemory>
+        requires { IsWishOf T.program wish }
         ensures { IfOk result (IfReady (IsOf T.program self.now.who)) }
     {
-        let (copied, assessed) = self.assess(&action)?;
+        let sites = wish.sites;
+        let action = wish.into_action(self.alloc)?;
+        let (copied, assessed) = self.assess(sites, &action)?;
         Ok(plan_by(self.crew.program, self.who, action, copied, assessed))
     }
 
-    /// Copies of the participants' states, and whether the worker can plan the action by these. The action is looked up once.
-    fn assess(&self, action: &Action) -> Result<(Vec<NodeState>, Assessed), OutOfMemory>
+    /// Copies of the participants' states, and whether the worker can plan the action by these. It asks for the sites of the action's name, so that this is
+    /// not searched for.
+    fn assess(
+        &self,
+        sites: &[Site],
+        action: &Action,
+    ) -> Result<(Vec<NodeState>, Assessed), OutOfMemory>
+        requires { sites.now ≡ sites_of T.program (act_of action.now).name }
         ensures { IfOk result (λ r. Assesses T.program self.now.who (act_of action.now) r.0.items r.1) }
     {
-        let participation = Participation::of(self.alloc, self.crew.program, action)?;
+        let participation = Participation::at(self.alloc, self.crew.program, sites, action)?;
         let numbers = participation.numbers(self.alloc)?;
         let copied = self.crew.copy(self.rt, &numbers)?;
         let assessed = assess(self.alloc, &participation, self.who, numbers, &copied)?;

@@ -6,6 +6,7 @@ ghost use Rattle.ioa_value.specs.Actions.{act_of};
 ghost use Rattle.ioa_tree.specs.Runs as runs;
 ghost use Rattle.ioa_tree.specs.Steps as steps;
 ghost use Rattle.ioa_compile.specs.Shown.{member_code};
+ghost use Rattle.ioa_compile.specs.Sites.{sites_of};
 ghost use Rattle.ioa_compile.specs.Tables.{IsProgram, tabled};
 ghost use Rattle.ioa_system.specs.Found as spec;
 ghost use Rattle.ioa_system.specs.Found.{AreParticipants, IsSite, IsTaker, takes_at};
@@ -77,18 +78,34 @@ impl<'a, 'b> Participation<'a, 'b> {
     ) -> Result<Participation<'a, 'b>, OutOfMemory>
         ensures { IfOk result (λ q. q ≡ record { program = program.now; action = act_of action.now }) }
     {
-        Participation::within(Vec::new(alloc), program, action)
+        let sites = program.sites(action.name.as_str());
+        Participation::at(alloc, program, sites, action)
+    }
+
+    /// The same, where the sites of the entries of its name are known.
+    pub fn at(
+        alloc: Global,
+        program: &'a Program,
+        sites: &[Site],
+        action: &'b Action,
+    ) -> Result<Participation<'a, 'b>, OutOfMemory>
+        requires { sites.now ≡ sites_of program.now (act_of action.now).name }
+        ensures { IfOk result (λ q. q ≡ record { program = program.now; action = act_of action.now }) }
+    {
+        Participation::within(Vec::new(alloc), program, sites, action)
     }
 
     /// The same, in the memory of this list, whatever it holds.
     pub(crate) fn within(
         mut room: Vec<Participant<'a>>,
         program: &'a Program,
+        sites: &[Site],
         action: &'b Action,
     ) -> Result<Participation<'a, 'b>, OutOfMemory>
+        requires { sites.now ≡ sites_of program.now (act_of action.now).name }
         ensures { IfOk result (λ q. q ≡ record { program = program.now; action = act_of action.now }) }
     {
-        let owner = find(program, action, &mut room)?;
+        let owner = find(program, sites, action, &mut room)?;
         Ok(Participation {
             program,
             action,
@@ -191,12 +208,15 @@ pub fn participants(
     Participation::of(alloc, program, action)?.numbers(alloc)
 }
 
-/// The action's participants in ascending order, in place of what the list held, and where its owner's entry stands.
+/// The action's participants in ascending order, in place of what the list held, and where its owner's entry stands, by the sites of the entries of
+/// the action's name.
 fn find<'a>(
     program: &'a Program,
+    sites: &[Site],
     action: &Action,
     participants: &mut Vec<Participant<'a>>,
 ) -> Result<Option<Site>, OutOfMemory>
+    requires { sites.now ≡ sites_of program.now (act_of action.now).name }
     ensures participants { OnOk result (AreParticipants (act_of action.now) program.now.members participants.new.items) }
     ensures owner { IfOk result (λ owner. owner ≡ spec.owner_site program.now (act_of action.now)) }
     ensures sound { IsProgram program.now }
@@ -204,7 +224,6 @@ fn find<'a>(
     participants.clear();
     let mut owner = None;
     let members = program.members();
-    let sites = program.sites(action.name.as_str());
     for k in 0..sites.len() {
         let site = sites[k];
         if let Some(taker) = taker_at(members, site, action) {

@@ -3,6 +3,7 @@
 ghost use Rattle.std.specs.Prelude.{◌≡◌, IfOk, OnErr};
 ghost use Rattle.ioa_value.specs.Actions.{act_of};
 ghost use Rattle.ioa_tree.specs.Steps as steps;
+ghost use Rattle.ioa_compile.specs.Sites.{sites_of};
 ghost use Rattle.ioa_compile.specs.Tables.{tabled};
 ghost use Rattle.ioa_system.specs.Outcomes.{IfNext, KeepsUnlessNext, step_of};
 ghost use Rattle.ioa_system.specs.Drafted.{AreDrafts, ArePlaces, drafted};
@@ -15,6 +16,7 @@ use crate::participation::{Participant, Participation};
 use crate::steps::moved;
 use ioa_compile::Program;
 use ioa_node::{Draft, NodeState, Workspace};
+use ioa_sites::Site;
 use ioa_value::{Action, OutOfMemory};
 use std::alloc::Global;
 use std::mem;
@@ -58,16 +60,18 @@ impl<'a> Stepper<'a> {
         }
     }
 
-    /// Who takes part in this action, as `Participation::of` says, in the stepper's memory, until `give_back`.
+    /// Who takes part in this action, as `Participation::at` says, in the stepper's memory, until `give_back`.
     pub fn participation<'b>(
         &mut self,
         program: &'a Program,
+        sites: &[Site],
         action: &'b Action,
     ) -> Result<Participation<'a, 'b>, OutOfMemory>
+        requires { sites.now ≡ sites_of program.now (act_of action.now).name }
         ensures { IfOk result (λ q. q ≡ record { program = program.now; action = act_of action.now }) }
     {
         let room = mem::replace(&mut self.room, Vec::new(self.alloc));
-        Participation::within(room, program, action)
+        Participation::within(room, program, sites, action)
     }
 
     /// Takes back the memory in which a participation stood.

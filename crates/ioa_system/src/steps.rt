@@ -220,7 +220,8 @@ fn write_arguments(
     if participants.is_empty() {
         return Ok(());
     }
-    let layout = participants[0].member.start.layout();
+    let member = participants[0].member;
+    let layout = member.start.layout();
     write_values(layout, &action.vals, args)?;
     Ok(())
 }

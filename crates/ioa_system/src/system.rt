@@ -100,7 +100,8 @@ impl<'a> System<'a> {
         ensures program { self.new.program ≡ self.old.program }
         ensures memory { OnErr result (self.new ≡ self.old) }
     {
-        let participation = self.stepper.participation(self.program, action)?;
+        let sites = self.program.sites(action.name.as_str());
+        let participation = self.stepper.participation(self.program, sites, action)?;
         let step = self.step_by(&participation)?;
         let worker = participation.worker();
         let external = participation.is_external();

@@ -15,7 +15,7 @@ whole c = lent_whole c.args.states.now.len c.args.states.now.items c.deref_mut.r
 
 pub step_by-step-requires : goal.step_by-step-requires
 step_by-step-requires c =
-    ap types_of c.deref_mut.ensures.value ∙ c.requires ∙ ap (λ (q : ProgramAction). slot_types q.program.members) (sym c.in_ok-participation.ensures)
+    ap types_of c.deref_mut.ensures.value ∙ c.requires.types ∙ ap (λ (q : ProgramAction). slot_types q.program.members) (sym c.in_ok-participation.ensures)
 
 pub returns-clause-value : goal.returns-clause-value
 returns-clause-value c =

@@ -22,7 +22,7 @@ use Rattle.ioa_run.proofs.alone.run_in.Goals.{After-finish}
 none_has : (g : Over) (c : After-finish g) → c.in_ok-ended.ended.items ≡ (turns_from c.args.room.board (map g.W.Words.stream c.args.words.items) (length (proposers c.args.room.program))).ended
 none_has g c =
     let many : length c.members.result.now ≡ length (proposers c.args.room.program) =
-    sym (length-map c.members.result.now member_code) ∙ ap length c.members.ensures.value ∙ ap (λ (p : Prog). length p.members) (c.program.ensures ∙ ap (λ (x : ProgramBoard). x.program) c.board.ensures.value) ∙ sym (length-map c.args.room.program.members proposers_of) in
+    sym (length-map c.members.result.now member_code) ∙ ap length c.members.ensures.value ∙ ap (λ (p : Prog). length p.members) (c.program-program.ensures ∙ ap (λ (x : ProgramBoard). x.program) c.board.ensures.value) ∙ sym (length-map c.args.room.program.members proposers_of) in
     c.in_ok-ended.ensures ∙ ap (λ n. replicate (n + 1) false) many
 
 goes : (g : Over) (c : After-finish g)
@@ -63,6 +63,10 @@ returns-clause-outcome g c =
     outcome_from c.args.room.program c.args.room.board (map act_of c.args.inputs.now) c.args.turns c.take_turns.new.room c.dismiss.new.room c.finish.result (goes g a).rest (dismisses g a).rest
     c.finish.ensures.log c.finish.ensures.reports c.finish.ensures.told c.finish.ensures.goes_on
 
+-- the local entries are those of the room's program
+pub take_turns-requires-clause-locals : goal.take_turns-requires-clause-locals
+take_turns-requires-clause-locals g c = c.in_ok-locals.ensures ∙ c.program-program.ensures ∙ ap (λ (x : ProgramBoard). x.program) c.board.ensures.value
+
 -- no turn is counted before the first
 pub take_turns-requires-clause-tallied : goal.take_turns-requires-clause-tallied
 take_turns-requires-clause-tallied g c =
@@ -87,5 +91,5 @@ returns-clause-tallied g c =
     let ended =
     ends_alone p c.args.room.board (map g.W.Words.stream c.args.words.items) (map act_of c.args.inputs.now) c.args.turns (map g.W.Words.stream c.take_turns.new.words) c.take_turns.new.ended u v
     c.in_ok-ended.ended.items c.finish.result c.requires.few (none_has g a) (goes g a) (dismisses g a) c.finish.ensures.log c.finish.ensures.reports c.finish.ensures.told in
-    let sound : IsProgram p = subst IsProgram (c.program.ensures ∙ ap (λ (x : ProgramBoard). x.program) c.board.ensures.value) c.members.ensures.sound in
+    let sound : IsProgram p = subst IsProgram (c.program-program.ensures ∙ ap (λ (x : ProgramBoard). x.program) c.board.ensures.value) c.members.ensures.sound in
     adding_up p c.args.room.board.history (map act_of c.args.inputs.now) c.args.turns c.finish.result c.take_turns.new.tallies.items sound.members outcome ended c.requires.few agreeing

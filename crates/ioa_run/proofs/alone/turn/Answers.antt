@@ -1,6 +1,6 @@
 use Rattle.std.proofs.Common.{◌≡◌, ◌∙◌, true, false, map, sym}
 use Rattle.std.specs.Option.{option_map}
-use Rattle.ioa_value.specs.Actions.{act_of}
+use Rattle.ioa_board.specs.Wishes.{act_meant}
 use Rattle.ioa_board.specs.declared.report.Why.{Why}
 use Rattle.ioa_run.specs.Tallies.{tally_of}
 use Rattle.ioa_run.proofs.Taking.{takes_turn}
@@ -9,8 +9,8 @@ use Rattle.ioa_run.proofs.alone.turn.Goals as goal
 
 pub returns-else-is_refused-clause-takes : goal.returns-else-is_refused-clause-takes
 returns-else-is_refused-clause-takes g c =
-    takes_turn c.args.room.now c.act_counted-end.new.room (map g.W.Words.stream c.args.words.now) (map g.W.Words.stream c.wish.new.words) c.args.who (option_map act_of c.in-Ok.action) c.act_counted-end.result
-    c.in-Ok.ensures c.act_counted-end.ensures.acts (λ e. (let t = c.is_refused.ensures.1 e in let f = c.if-is_refused.false in let q : false ≡ true = sym f ∙ t in cc))
+    takes_turn c.args.room.now c.act_counted-end.new.room (map g.W.Words.stream c.args.words.now) (map g.W.Words.stream c.wish.new.words) c.args.who (option_map act_meant c.in-Ok.meant) c.act_counted-end.result
+    c.in-Ok.ensures.wishes c.act_counted-end.ensures.acts (λ e. (let t = c.is_refused.ensures.1 e in let f = c.if-is_refused.false in let q : false ≡ true = sym f ∙ t in cc))
 
 -- a worker that leaves changes no tally
 pub returns-then-is_refused-clause-tallied : goal.returns-then-is_refused-clause-tallied

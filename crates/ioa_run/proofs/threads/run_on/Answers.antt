@@ -10,6 +10,10 @@ use Rattle.ioa_run.proofs.Adding.{adding_up, both_ok}
 use Rattle.ioa_run.proofs.Tallying.{agreeing_blank}
 use Rattle.ioa_run.proofs.threads.run_on.Goals as goal
 
+-- the local entries are those of the run's program
+pub of-crew-requires-clause-its : goal.of-crew-requires-clause-its
+of-crew-requires-clause-its g c = c.in_ok-locals.ensures ∙ c.requires.program
+
 -- no turn is counted before the first
 pub of-crew-requires-clause-tallied : goal.of-crew-requires-clause-tallied
 of-crew-requires-clause-tallied g c =

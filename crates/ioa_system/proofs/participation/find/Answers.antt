@@ -10,11 +10,7 @@ use Rattle.ioa_system.specs.declared.participation.Participant.{Participant}
 use Rattle.ioa_system.specs.Found.{IsSite, IsTaker, takes_at}
 use Rattle.ioa_system.proofs.Taking.{Finds, OwnedSo, finds_begin, finds_more, finds_none, finds_end, owned_more, owned_none, owned_end, is_site}
 use Rattle.ioa_system.proofs.participation.find.Goals as goal
-use Rattle.ioa_system.proofs.participation.find.Goals.{After-sites-sites, in-Some+in_ok-push, in_default}
-
--- the sites are those of the action's name
-those : (c : After-sites-sites) → c.sites-sites.result.now ≡ sites_of c.args.program.now (act_of c.args.action.now).name
-those c = c.sites-sites.ensures.value ∙ ap (sites_of c.args.program.now) c.as_str.ensures.value
+use Rattle.ioa_system.proofs.participation.find.Goals.{in-Some+in_ok-push, in_default}
 
 pub loop-k-init : goal.loop-k-init
 loop-k-init c =
@@ -26,22 +22,22 @@ pub taker_at-requires : goal.taker_at-requires
 taker_at-requires c =
     let p : Prog = c.args.program.now in
     let a : Act = act_of c.args.action.now in
-    let ss : List Site = c.sites-sites.result.now in
+    let ss : List Site = c.args.sites.now in
     let s : Site = get_or ss c.loop-k.k (record { component = 0; entry = 0; shown = false }) in
     let at = slice_get-get_or ss c.loop-k.k (record { component = 0; entry = 0; shown = false }) c.loop-k-test.true in
     subst (λ ms. IsSite ms s) (sym c.members-members.ensures.value)
-    (is_site p a.name c.loop-k.k s (ap (λ us. slice_get us c.loop-k.k) (sym (those ((goal.at.taker_at-requires c).After-sites-sites))) ∙ at))
+    (is_site p a.name c.loop-k.k s (ap (λ us. slice_get us c.loop-k.k) (sym c.requires) ∙ at))
 
 pub loop-k-preserved : goal.loop-k-preserved
 loop-k-preserved c =
     let p : Prog = c.args.program.now in
     let a : Act = act_of c.args.action.now in
     let all : List Site = sites_of p a.name in
-    let ss : List Site = c.sites-sites.result.now in
+    let ss : List Site = c.args.sites.now in
     let k : ℕ = c.loop-k.k in
     let s : Site = get_or ss k (record { component = 0; entry = 0; shown = false }) in
     let qs : List Participant = c.loop-k.participants.items in
-    let same : ss ≡ all = those ((goal.at.loop-k-preserved c).After-sites-sites) in
+    let same : ss ≡ all = c.requires in
     let here = slice_get-get_or ss k (record { component = 0; entry = 0; shown = false }) c.loop-k-test.true in
     let at : slice_get all k ≡ Some s = ap (λ us. slice_get us k) (sym same) ∙ here in
     let next = drop_there all k s at in
@@ -64,10 +60,10 @@ loop-k-preserved c =
 
 pub returns-clause-participants : goal.returns-clause-participants
 returns-clause-participants c =
-    let size = ap length (those ((goal.at.returns-clause-participants c).After-sites-sites)) in
+    let size = ap length c.requires in
     finds_end c.args.program.now (act_of c.args.action.now) c.loop-k.participants.items c.loop-k.k c.loop-k.invariant.0 (omega arith)
 
 pub returns-clause-owner : goal.returns-clause-owner
 returns-clause-owner c =
-    let size = ap length (those ((goal.at.returns-clause-owner c).After-sites-sites)) in
+    let size = ap length c.requires in
     owned_end c.args.program.now (act_of c.args.action.now) c.loop-k.owner c.loop-k.k c.loop-k.invariant.1 (omega arith)
