@@ -1,3 +1,4 @@
 pub mod Counts
+pub mod Devices
 pub mod Failing
 pub mod LineReading

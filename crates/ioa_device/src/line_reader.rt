@@ -2,7 +2,7 @@
 
 ghost use Rattle.std.specs.Prelude.{◌≡◌, ◌<◌, ◌≤◌, ◌-◌, ◌+◌, ◌^◌, ◌⊎◌, [], ℕ, Ok, Some, true, false, IfOk, IfErr, IfSome, OnOk, IsErrOf, length, min};
 ghost use Rattle.ioa_value.specs.Lists.{after_line, first_line};
-ghost use Rattle.ioa_device.specs.Failing.{FailedOnceAtMost, HasFailed};
+ghost use Rattle.ioa_device.specs.Devices.{FailsWhere, change};
 ghost use Rattle.ioa_device.specs.LineReading.{IsOver, IsWithin, rest, to_come};
 ghost use Rattle.ioa_device.specs.declared.failure.LogErr.{LogErr};
 
@@ -64,9 +64,7 @@ impl LineReader {
         ensures room { result ≡ Ok true → self.new.start < self.new.end }
         ensures line { self.new.line ≡ self.old.line }
         ensures counted { OnOk result ((n : ℕ) → min (n + length (rest self.old)) (2 ^ 64 - 1) ≤ R.given_count input.old → min (n + length (rest self.new)) (2 ^ 64 - 1) ≤ R.given_count input.new) }
-        ensures io { IsErrOf result LogErr.Io → HasFailed (R.failure_count input.old) (R.failure_count input.new) }
-        ensures passed { OnOk result (R.failure_count input.new ≡ R.failure_count input.old) }
-        ensures once { FailedOnceAtMost (R.failure_count input.old) (R.failure_count input.new) }
+        ensures devices { FailsWhere (IsErrOf result LogErr.Io) (change R.remaining R.failure_count input.old input.new) }
         ensures only { IfErr result (λ e. e ≡ LogErr.Io) }
     {
         if self.start < self.end {
@@ -96,9 +94,7 @@ impl LineReader {
             × (to_come (R.remaining input.new) self.new ≡ Some (after_line all)))) }
         ensures counted { OnOk result ((n : ℕ) → min (n + length (rest self.old)) (2 ^ 64 - 1) ≤ R.given_count input.old → 0 < length (rest self.old)
             → min (n + 1 + length (rest self.new)) (2 ^ 64 - 1) ≤ R.given_count input.new) }
-        ensures io { IsErrOf result LogErr.Io → HasFailed (R.failure_count input.old) (R.failure_count input.new) }
-        ensures passed { (IsErrOf result LogErr.Io → ⊥) → R.failure_count input.new ≡ R.failure_count input.old }
-        ensures once { FailedOnceAtMost (R.failure_count input.old) (R.failure_count input.new) }
+        ensures devices { FailsWhere (IsErrOf result LogErr.Io) (change R.remaining R.failure_count input.old input.new) }
         ensures only { IfErr result (λ e. (e ≡ LogErr.Io) ⊎ (e ≡ LogErr.OutOfMemory)) }
     {
         self.line.clear();
@@ -131,9 +127,7 @@ impl LineReader {
         ensures longer { IsErrOf result LogErr.AfterEnd → (ended ≡ true) × IfSome (to_come (R.remaining input.old) self.old) (λ all. 0 < length all) }
         ensures counted { result ≡ Ok true → (n : ℕ) → min (n + length (rest self.old)) (2 ^ 64 - 1) ≤ R.given_count input.old
             → min (n + 1 + length (rest self.new)) (2 ^ 64 - 1) ≤ R.given_count input.new }
-        ensures io { IsErrOf result LogErr.Io → HasFailed (R.failure_count input.old) (R.failure_count input.new) }
-        ensures passed { (IsErrOf result LogErr.Io → ⊥) → R.failure_count input.new ≡ R.failure_count input.old }
-        ensures once { FailedOnceAtMost (R.failure_count input.old) (R.failure_count input.new) }
+        ensures devices { FailsWhere (IsErrOf result LogErr.Io) (change R.remaining R.failure_count input.old input.new) }
         ensures only { IfErr result (λ e. (e ≡ LogErr.Io) ⊎ ((e ≡ LogErr.AfterEnd) ⊎ (e ≡ LogErr.OutOfMemory))) }
     {
         let some = self.has_more(input)?;

@@ -2,6 +2,7 @@
 
 ghost use Rattle.std.specs.Prelude.{◌≡◌, ◌≤◌, ◌-◌, ◌^◌, ◌⊎◌, ℕ, OnOk, OnErr, IfOk, IfErr, IfSome, IsErrOf, take};
 ghost use Rattle.std.specs.Io.KnownBytes.{Appends};
+ghost use Rattle.ioa_device.specs.Devices.{FailsWhere, change};
 ghost use Rattle.ioa_device.specs.Failing.{FailedOnceAtMost, HasFailed};
 ghost use Rattle.ioa_device.specs.declared.failure.LogErr.{LogErr};
 
@@ -18,9 +19,7 @@ pub(crate) const PIECE: usize = 65_536;
 /// `Io` exactly where the reader failed in this call; `OutOfMemory`.
 pub fn read_all<R: InputDevice>(alloc: Global, input: &mut R) -> Result<Vec<u8>, LogErr>
     ensures ok { IfOk result (λ text. IfSome (R.remaining input.old) (λ bytes. text.items ≡ bytes)) }
-    ensures io { IsErrOf result LogErr.Io → HasFailed (R.failure_count input.old) (R.failure_count input.new) }
-    ensures passed { (IsErrOf result LogErr.Io → ⊥) → R.failure_count input.new ≡ R.failure_count input.old }
-    ensures once { FailedOnceAtMost (R.failure_count input.old) (R.failure_count input.new) }
+    ensures devices { FailsWhere (IsErrOf result LogErr.Io) (change R.remaining R.failure_count input.old input.new) }
     ensures only { IfErr result (λ e. (e ≡ LogErr.Io) ⊎ (e ≡ LogErr.OutOfMemory)) }
 {
     let mut text = Vec::new(alloc);
@@ -39,9 +38,7 @@ pub fn read_all<R: InputDevice>(alloc: Global, input: &mut R) -> Result<Vec<u8>,
 pub fn blamed<R: InputDevice>(input: &mut R, error: LogErr) -> LogErr
     requires { error ≡ LogErr.Io → 2 ^ 64 - 1 ≤ R.given_count input.old }
     ensures same { result ≡ error }
-    ensures failed { error ≡ LogErr.Io → HasFailed (R.failure_count input.old) (R.failure_count input.new) }
-    ensures passed { (error ≡ LogErr.Io → ⊥) → R.failure_count input.new ≡ R.failure_count input.old }
-    ensures once { FailedOnceAtMost (R.failure_count input.old) (R.failure_count input.new) }
+    ensures devices { FailsWhere (error ≡ LogErr.Io) (change R.remaining R.failure_count input.old input.new) }
 {
     if error == LogErr::Io {
         input.refuse();

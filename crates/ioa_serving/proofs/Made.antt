@@ -2,11 +2,12 @@
 use Rattle.std.proofs.Common.{ℕ, List, Option, Err, inr, refl}
 use Rattle.std.specs.Result.{IsErrOf}
 use Rattle.ioa_value.specs.Actions.{Name}
+use Rattle.ioa_device.specs.Devices.{Change, Untouched}
 use Rattle.ioa_object.specs.Spelling.{mark}
 use Rattle.ioa_serving.specs.declared.failure.Failure.{Failure}
 use Rattle.ioa_serving.specs.declared.store.StoreErr.{StoreErr}
 use Rattle.ioa_serving.specs.Compiling.{IsCompiled, IsUncompiled, IsUnmade}
-use Rattle.ioa_serving.specs.Devices.{Change, Files, Untouched}
+use Rattle.ioa_serving.specs.Worlds.{Files}
 use Rattle.ioa_serving.specs.Serving.{failure_of}
 
 -- the source is refused

@@ -40,7 +40,7 @@ use Rattle.ioa_request.specs.declared.settings.Settings.{Settings}
 use Rattle.ioa_serving.specs.declared.ready.Ready.{Ready}
 use Rattle.ioa_serving.specs.declared.status.Status.{Status}
 use Rattle.ioa_serving.specs.Coverage.{told_coverage}
-use Rattle.ioa_serving.specs.Devices.{Files}
+use Rattle.ioa_serving.specs.Worlds.{Files}
 use Rattle.ioa_serving.specs.Placing.{log_mark}
 use Rattle.ioa_serving.specs.Seeds.{AreSeedsJudged, AreSown, IsAnswerOf, IsInspected, IsKeptIn, IsSeedJudged, IsSeedsServed, IsSeedsUnserved, IsShortest, IsUnkeepable, Judged, counts_status, monitors_of, performed_by_all, seeds_text, with_seed}
 use Rattle.ioa_serving.specs.SeedRuns.{AreSeedJudgments, HasSown, IsBegun, IsNoneRun, IsSeedJudgment, IsSeedRun, IsSpecification, IsTold, StandsFor, asked, broken_in, table_answer}

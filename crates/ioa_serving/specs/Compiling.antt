@@ -4,11 +4,12 @@ use Rattle.ioa_value.specs.Actions.{Name}
 use Rattle.ioa_tree.specs.Hosts.{Hosted}
 use Rattle.ioa_compile.specs.Programs.{Prog}
 use Rattle.ioa_compile.specs.Subjects.{Runs, of_hosts}
+use Rattle.ioa_device.specs.Devices.{Change, Failed, Untouched, Wrote}
 use Rattle.ioa_object.specs.Objects.{IsObject}
 use Rattle.ioa_object.specs.Spelling.{mark}
 use Rattle.ioa_serving.specs.declared.failure.Failure.{Failure}
 use Rattle.ioa_serving.specs.Checks.{ok_line}
-use Rattle.ioa_serving.specs.Devices.{Change, Failed, Files, Untouched, Wrote}
+use Rattle.ioa_serving.specs.Worlds.{Files}
 use Rattle.ioa_serving.specs.Failing.{IsDeviceErr, IsRefusedSource}
 use Rattle.ioa_serving.specs.Headline.{IsFileOf, begins_object}
 

@@ -7,7 +7,6 @@ pub mod Counting
 pub mod Coverage
 pub mod Cuts
 pub mod Delivering
-pub mod Devices
 pub mod Dumps
 pub mod Explaining
 pub mod Failing
@@ -40,3 +39,4 @@ pub mod Strict
 pub mod Traces
 pub mod Watching
 pub mod WordLists
+pub mod Worlds

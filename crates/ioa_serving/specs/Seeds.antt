@@ -28,7 +28,7 @@ use Rattle.ioa_serving.specs.declared.failure.Failure.{Failure}
 use Rattle.ioa_serving.specs.declared.status.Status.{Status}
 use Rattle.ioa_serving.specs.Alone.{CameOf, IsUnrun}
 use Rattle.ioa_serving.specs.Coverage.{told_coverage}
-use Rattle.ioa_serving.specs.Devices.{Files}
+use Rattle.ioa_serving.specs.Worlds.{Files}
 use Rattle.ioa_serving.specs.Headline.{IsFileOf}
 use Rattle.ioa_serving.specs.Json.{answer_json, broken_json}
 use Rattle.ioa_serving.specs.Logs.{answer_text, answer_to, broken_words, performed_in}

@@ -3,6 +3,7 @@ use Rattle.std.specs.Prelude.{◌≡◌, ℕ, ◌⊎◌, List, [], map, Option, 
 use Rattle.std.specs.Option.{option_copied, option_map}
 use Rattle.std.specs.String.{string_bytes}
 use Rattle.ioa_tree.specs.Runs.{Ending}
+use Rattle.ioa_device.specs.Devices.{Change, Failed, Untouched, Wrote}
 use Rattle.ioa_links.specs.Library.{library_text}
 use Rattle.ioa_board.specs.declared.run_err.RunErr.{RunErr}
 use Rattle.ioa_serving.specs.declared.failure.Failure.{Failure}
@@ -15,7 +16,7 @@ use Rattle.ioa_serving.specs.declared.status.Status.{Status}
 use Rattle.ioa_serving.specs.Checks.{IsCheck, IsCheckFailure, IsUnchecked}
 use Rattle.ioa_serving.specs.Compiling.{IsMade, IsUnmade}
 use Rattle.ioa_serving.specs.Coverage.{BeginsCoverageOf, IsCoverage, IsCoverageFailure}
-use Rattle.ioa_serving.specs.Devices.{Change, Failed, Files, Untouched, Wrote}
+use Rattle.ioa_serving.specs.Worlds.{Files}
 use Rattle.ioa_serving.specs.Dumps.{IsDumped, IsUndumped}
 use Rattle.ioa_serving.specs.Explaining.{IsExplained, IsUnexplained}
 use Rattle.ioa_serving.specs.Headline.{IsMonitoring, IsLogStatesReplay, IsStatesReplay}

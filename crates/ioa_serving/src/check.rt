@@ -1,8 +1,9 @@
 //! `check`: whether a source keeps the rules, or the code of an object is valid.
 
 ghost use Rattle.std.specs.Prelude.{◌≡◌, ◌∷◌, [], All, List, Some, OnOk, IfErr, IsErrOf};
+ghost use Rattle.ioa_device.specs.Devices.{PassesUnless, change};
 ghost use Rattle.ioa_device.specs.declared.failure.LogErr.{LogErr};
-ghost use Rattle.ioa_device.specs.Failing.{FailedOnceAtMost, HasFailed};
+ghost use Rattle.ioa_device.specs.Failing.{HasFailed};
 ghost use Rattle.ioa_tree.specs.Compositions.{compositions};
 ghost use Rattle.ioa_tree.specs.Tree.{CompositionTree};
 ghost use Rattle.ioa_tree.specs.View.{declaration_of, tree_of};
@@ -35,8 +36,7 @@ pub fn check_text<W: OutputDevice>(
     ensures checks { OnOk result (IsCheck text.now compositions (W.contents output.old) (W.contents output.new)) }
     ensures refused { IfErr result (λ e. IsCheckFailure text.now compositions (HasFailed (W.failure_count output.old) (W.failure_count output.new)) e) }
     ensures unwritten { IfErr result (λ e. IsUnchecked (W.contents output.old) (W.contents output.new) e) }
-    ensures passed { (IsErrOf result (Failure.List LogErr.Io) → ⊥) → W.failure_count output.new ≡ W.failure_count output.old }
-    ensures once { FailedOnceAtMost (W.failure_count output.old) (W.failure_count output.new) }
+    ensures devices { PassesUnless (IsErrOf result (Failure.List LogErr.Io)) (change W.contents W.failure_count output.old output.new) }
 {
     accept(alloc, text, compositions)?;
     send_all(output, b"ok\n")?;

@@ -1,9 +1,10 @@
 //! `graph`: pictures of compositions.
 
-ghost use Rattle.std.specs.Prelude.{◌≡◌, IfErr, IsErrOf, OnOk};
+ghost use Rattle.std.specs.Prelude.{IfErr, IsErrOf, OnOk};
 ghost use Rattle.std.specs.Option.{option_copied};
+ghost use Rattle.ioa_device.specs.Devices.{PassesUnless, change};
 ghost use Rattle.ioa_device.specs.declared.failure.LogErr.{LogErr};
-ghost use Rattle.ioa_device.specs.Failing.{FailedOnceAtMost, HasFailed};
+ghost use Rattle.ioa_device.specs.Failing.{HasFailed};
 ghost use Rattle.ioa_serving.specs.Pictures.{IsGraphed, IsUngraphed};
 
 use crate::compile::program_of;
@@ -26,8 +27,7 @@ pub fn graph_text<W: OutputDevice>(
     ensures graphs { OnOk result (IsGraphed text.now (option_copied composition.entry) (W.contents output.old) (W.contents output.new)) }
     ensures refused { IfErr result (λ e. IsUngraphed text.now (option_copied composition.entry) (HasFailed (W.failure_count output.old) (W.failure_count output.new))
         (W.contents output.old) (W.contents output.new) e) }
-    ensures passed { (IsErrOf result (Failure.List LogErr.Io) → ⊥) → W.failure_count output.new ≡ W.failure_count output.old }
-    ensures once { FailedOnceAtMost (W.failure_count output.old) (W.failure_count output.new) }
+    ensures devices { PassesUnless (IsErrOf result (Failure.List LogErr.Io)) (change W.contents W.failure_count output.old output.new) }
 {
     let program = program_of(alloc, text, composition)?;
     let drawn = graph(alloc, &program)?;

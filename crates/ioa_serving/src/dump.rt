@@ -1,8 +1,9 @@
 //! Objects as lines of text, for people.
 
-ghost use Rattle.std.specs.Prelude.{◌≡◌, IfErr, IsErrOf, OnOk};
+ghost use Rattle.std.specs.Prelude.{IfErr, IsErrOf, OnOk};
+ghost use Rattle.ioa_device.specs.Devices.{PassesUnless, change};
 ghost use Rattle.ioa_device.specs.declared.failure.LogErr.{LogErr};
-ghost use Rattle.ioa_device.specs.Failing.{FailedOnceAtMost, HasFailed};
+ghost use Rattle.ioa_device.specs.Failing.{HasFailed};
 ghost use Rattle.ioa_serving.specs.Dumps as spec;
 
 use crate::failure::Failure;
@@ -24,8 +25,7 @@ pub fn dump_object<W: OutputDevice>(
     ensures dumps { OnOk result (spec.IsDumped bytes.now (W.contents output.old) (W.contents output.new)) }
     ensures refused { IfErr result (λ e. spec.IsUndumped bytes.now (HasFailed (W.failure_count output.old) (W.failure_count output.new))
         (W.contents output.old) (W.contents output.new) e) }
-    ensures passed { (IsErrOf result (Failure.List LogErr.Io) → ⊥) → W.failure_count output.new ≡ W.failure_count output.old }
-    ensures once { FailedOnceAtMost (W.failure_count output.old) (W.failure_count output.new) }
+    ensures devices { PassesUnless (IsErrOf result (Failure.List LogErr.Io)) (change W.contents W.failure_count output.old output.new) }
 {
     let program = read_object(alloc, bytes)?;
     let text = dump_text(alloc, &program)?;

@@ -1,8 +1,9 @@
 //! `explain`: the explanation of a topic, for people.
 
-ghost use Rattle.std.specs.Prelude.{◌≡◌, OnOk, IfErr, IsErrOf};
+ghost use Rattle.std.specs.Prelude.{OnOk, IfErr, IsErrOf};
+ghost use Rattle.ioa_device.specs.Devices.{PassesUnless, change};
 ghost use Rattle.ioa_device.specs.declared.failure.LogErr.{LogErr};
-ghost use Rattle.ioa_device.specs.Failing.{FailedOnceAtMost, HasFailed};
+ghost use Rattle.ioa_device.specs.Failing.{HasFailed};
 ghost use Rattle.ioa_serving.specs.Explaining.{IsExplained, IsUnexplained};
 
 use crate::failure::Failure;
@@ -20,8 +21,7 @@ pub fn explain<W: OutputDevice>(alloc: Global, topic: Topic, output: &mut W) -> 
     ensures explains { OnOk result (IsExplained topic (W.contents output.old) (W.contents output.new)) }
     ensures refused { IfErr result (λ e. IsUnexplained topic (HasFailed (W.failure_count output.old) (W.failure_count output.new))
         (W.contents output.old) (W.contents output.new) e) }
-    ensures passed { (IsErrOf result (Failure.List LogErr.Io) → ⊥) → W.failure_count output.new ≡ W.failure_count output.old }
-    ensures once { FailedOnceAtMost (W.failure_count output.old) (W.failure_count output.new) }
+    ensures devices { PassesUnless (IsErrOf result (Failure.List LogErr.Io)) (change W.contents W.failure_count output.old output.new) }
 {
     let explanation = explanation(topic);
     let text = format!(in alloc; "{explanation}")?;

@@ -6,8 +6,9 @@ ghost use Rattle.ioa_tree.specs.Hosts.{Hosted};
 ghost use Rattle.ioa_compose.specs.Held.{composed_of};
 ghost use Rattle.ioa_compose.specs.Simulates.{Simulates};
 ghost use Rattle.ioa_compile.specs.Subjects.{of_hosts};
+ghost use Rattle.ioa_device.specs.Devices.{BothPassUnless, FailsWhere, change};
 ghost use Rattle.ioa_device.specs.declared.failure.LogErr.{LogErr};
-ghost use Rattle.ioa_device.specs.Failing.{FailedOnceAtMost, HasFailed};
+ghost use Rattle.ioa_device.specs.Failing.{HasFailed};
 ghost use Rattle.ioa_inspect.specs.Breaking.{broken_of};
 ghost use Rattle.ioa_serving.specs.Failing.{IsInvariantFailure, IsNoLogOf, IsUnwritten};
 ghost use Rattle.ioa_serving.specs.Json.{broken_json, verdict_line};
@@ -42,9 +43,7 @@ pub fn replay_invariants_objects_text<R: InputDevice, W: OutputDevice>(
         (HasFailed (R.failure_count input.old) (R.failure_count input.new) ⊎ HasFailed (W.failure_count output.old) (W.failure_count output.new)) e) }
     ensures unwritten { IfErr result (λ e. IsUnwritten (BeginsFindingAs true text.now (option_copied composition.entry) (R.remaining input.old))
         (W.contents output.old) (W.contents output.new) e) }
-    ensures passed { (IsErrOf result (Failure.List LogErr.Io) → ⊥)
-        → (R.failure_count input.new ≡ R.failure_count input.old) × (W.failure_count output.new ≡ W.failure_count output.old) }
-    ensures once { FailedOnceAtMost (R.failure_count input.old) (R.failure_count input.new) × FailedOnceAtMost (W.failure_count output.old) (W.failure_count output.new) }
+    ensures devices { BothPassUnless (IsErrOf result (Failure.List LogErr.Io)) (change R.remaining R.failure_count input.old input.new) (change W.contents W.failure_count output.old output.new) }
 {
     if is_object(text) {
         return Err(Failure::SourceWanted);
@@ -65,9 +64,7 @@ fn inspect_objects<R: InputDevice>(
         → IfSome (R.remaining input.old) (λ bytes. IsFoundTold h bytes (found_of told.1) told.0.items)) }
     ensures refused { IfErr result (λ e. (h : Hosted) → Simulates h (composed_of composition.now)
         → IfSome (R.remaining input.old) (λ bytes. IsNoLogOf e (of_hosts h) bytes)) }
-    ensures io { IsErrOf result LogErr.Io → HasFailed (R.failure_count input.old) (R.failure_count input.new) }
-    ensures passed { (IsErrOf result LogErr.Io → ⊥) → R.failure_count input.new ≡ R.failure_count input.old }
-    ensures once { FailedOnceAtMost (R.failure_count input.old) (R.failure_count input.new) }
+    ensures devices { FailsWhere (IsErrOf result LogErr.Io) (change R.remaining R.failure_count input.old input.new) }
 {
     let inspection = inspect_log(alloc, composition, input)?;
     match inspection.broken {

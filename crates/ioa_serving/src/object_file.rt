@@ -3,10 +3,10 @@
 ghost use Rattle.std.specs.Prelude.{◌≡◌, OnOk, IfErr, IsErrOf};
 ghost use Rattle.std.specs.Option.{option_copied};
 ghost use Rattle.ioa_object.specs.Spelling.{mark};
+ghost use Rattle.ioa_device.specs.Devices.{PassesUnless, change};
 ghost use Rattle.ioa_device.specs.declared.failure.LogErr.{LogErr};
-ghost use Rattle.ioa_device.specs.Failing.{FailedOnceAtMost};
 ghost use Rattle.ioa_serving.specs.Compiling.{IsMade, IsUnmade};
-ghost use Rattle.ioa_serving.specs.Devices.{change, files};
+ghost use Rattle.ioa_serving.specs.Worlds.{files};
 ghost use Rattle.ioa_serving.specs.Placing.{Blocks, Places};
 ghost use Rattle.ioa_serving.specs.declared.store.StoreErr.{StoreErr};
 
@@ -37,8 +37,7 @@ pub fn compile_file<F: Store, W: OutputDevice>(
     ensures makes { OnOk result (IsMade (files F.holds F.lacks F.begins F.bars F.saves store.old store.new) file.now out.now (option_copied composition.entry) (change W.contents W.failure_count output.old output.new)) }
     ensures refused { IfErr result (λ e. IsUnmade (files F.holds F.lacks F.begins F.bars F.saves store.old store.new) file.now out.now (option_copied composition.entry)
         (change W.contents W.failure_count output.old output.new) e) }
-    ensures passed { (IsErrOf result (Failure.List LogErr.Io) → ⊥) → W.failure_count output.new ≡ W.failure_count output.old }
-    ensures once { FailedOnceAtMost (W.failure_count output.old) (W.failure_count output.new) }
+    ensures devices { PassesUnless (IsErrOf result (Failure.List LogErr.Io)) (change W.contents W.failure_count output.old output.new) }
 {
     let text = store.load(alloc, file)?;
     let object = object_of(alloc, text.as_slice(), composition)?;

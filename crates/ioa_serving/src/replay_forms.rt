@@ -1,10 +1,11 @@
 //! Replays in either form: as text, or as JSON objects.
 
-ghost use Rattle.std.specs.Prelude.{◌≡◌, ◌⊎◌, IfOk, IfErr, IfSome, IsErrOf};
+ghost use Rattle.std.specs.Prelude.{◌⊎◌, IfOk, IfErr, IfSome, IsErrOf};
 ghost use Rattle.std.specs.Option.{option_copied};
 ghost use Rattle.ioa_system.specs.Outcomes.{ending_of};
+ghost use Rattle.ioa_device.specs.Devices.{BothPassUnless, change};
 ghost use Rattle.ioa_device.specs.declared.failure.LogErr.{LogErr};
-ghost use Rattle.ioa_device.specs.Failing.{FailedOnceAtMost, HasFailed};
+ghost use Rattle.ioa_device.specs.Failing.{HasFailed};
 ghost use Rattle.ioa_serving.specs.Failing.{IsFailure, IsInvariantFailure, IsLogReplayFailure, IsUnwritten};
 ghost use Rattle.ioa_serving.specs.Logs.{found_of};
 ghost use Rattle.ioa_serving.specs.Objects.{BeginsFindingAs, BeginsLogReplayAs, BeginsReplayAs, IsInvariantReplayAs, IsLogReplayAs, IsReplayAs};
@@ -38,9 +39,7 @@ pub fn replay_in_form<R: InputDevice, W: OutputDevice>(
         (HasFailed (R.failure_count input.old) (R.failure_count input.new) ⊎ HasFailed (W.failure_count output.old) (W.failure_count output.new)) e) }
     ensures unwritten { IfErr result (λ e. IsUnwritten (BeginsReplayAs json text.now (option_copied composition.entry) (R.remaining input.old))
         (W.contents output.old) (W.contents output.new) e) }
-    ensures passed { (IsErrOf result (Failure.List LogErr.Io) → ⊥)
-        → (R.failure_count input.new ≡ R.failure_count input.old) × (W.failure_count output.new ≡ W.failure_count output.old) }
-    ensures once { FailedOnceAtMost (R.failure_count input.old) (R.failure_count input.new) × FailedOnceAtMost (W.failure_count output.old) (W.failure_count output.new) }
+    ensures devices { BothPassUnless (IsErrOf result (Failure.List LogErr.Io)) (change R.remaining R.failure_count input.old input.new) (change W.contents W.failure_count output.old output.new) }
 {
     if json {
         return replay_objects_text(alloc, text, composition, input, output);
@@ -67,9 +66,7 @@ pub fn replay_log_in_form<R: InputDevice, W: OutputDevice>(
         (HasFailed (R.failure_count input.old) (R.failure_count input.new) ⊎ HasFailed (W.failure_count output.old) (W.failure_count output.new)) e) }
     ensures unwritten { IfErr result (λ e. IsUnwritten (BeginsLogReplayAs json text.now (option_copied composition.entry) (R.remaining input.old))
         (W.contents output.old) (W.contents output.new) e) }
-    ensures passed { (IsErrOf result (Failure.List LogErr.Io) → ⊥)
-        → (R.failure_count input.new ≡ R.failure_count input.old) × (W.failure_count output.new ≡ W.failure_count output.old) }
-    ensures once { FailedOnceAtMost (R.failure_count input.old) (R.failure_count input.new) × FailedOnceAtMost (W.failure_count output.old) (W.failure_count output.new) }
+    ensures devices { BothPassUnless (IsErrOf result (Failure.List LogErr.Io)) (change R.remaining R.failure_count input.old input.new) (change W.contents W.failure_count output.old output.new) }
 {
     if json {
         return replay_log_objects_text(alloc, text, composition, input, output);
@@ -96,9 +93,7 @@ pub fn replay_invariants_in_form<R: InputDevice, W: OutputDevice>(
         (HasFailed (R.failure_count input.old) (R.failure_count input.new) ⊎ HasFailed (W.failure_count output.old) (W.failure_count output.new)) e) }
     ensures unwritten { IfErr result (λ e. IsUnwritten (BeginsFindingAs json text.now (option_copied composition.entry) (R.remaining input.old))
         (W.contents output.old) (W.contents output.new) e) }
-    ensures passed { (IsErrOf result (Failure.List LogErr.Io) → ⊥)
-        → (R.failure_count input.new ≡ R.failure_count input.old) × (W.failure_count output.new ≡ W.failure_count output.old) }
-    ensures once { FailedOnceAtMost (R.failure_count input.old) (R.failure_count input.new) × FailedOnceAtMost (W.failure_count output.old) (W.failure_count output.new) }
+    ensures devices { BothPassUnless (IsErrOf result (Failure.List LogErr.Io)) (change R.remaining R.failure_count input.old input.new) (change W.contents W.failure_count output.old output.new) }
 {
     if json {
         return replay_invariants_objects_text(alloc, text, composition, input, output);

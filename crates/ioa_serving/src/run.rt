@@ -1,7 +1,7 @@
 //! `run`: from what files hold to a history, of which the trace or the log is written.
 
-ghost use Rattle.std.specs.Prelude.{◌≡◌, ◌≤◌, ◌⊎◌, ◌∷◌, [], ℕ, List, Some, true, false, IfOk, IfErr, IsErrOf, OnOk, length, map, take};
-ghost use Rattle.std.specs.Io.KnownBytes.{Appends, Keeps};
+ghost use Rattle.std.specs.Prelude.{◌≡◌, ◌≤◌, ◌∷◌, [], List, Some, true, false, IfOk, IfErr, IsErrOf, length, map};
+ghost use Rattle.std.specs.Io.KnownBytes.{Appends};
 ghost use Rattle.std.specs.Option.{option_map};
 ghost use Rattle.std.specs.String.{string_bytes};
 ghost use Rattle.ioa_value.specs.Actions.{act_of};
@@ -9,8 +9,9 @@ ghost use Rattle.ioa_compile.specs.Subjects.{RunsAs, Subject};
 ghost use Rattle.ioa_coverage.specs.Covered.{IsOriginOf};
 ghost use Rattle.ioa_system.specs.Outcomes.{ending_of};
 ghost use Rattle.ioa_system.specs.Logs.{log_end, logged};
+ghost use Rattle.ioa_device.specs.Devices.{PassesUnless, Writes, change};
 ghost use Rattle.ioa_device.specs.declared.failure.LogErr.{LogErr};
-ghost use Rattle.ioa_device.specs.Failing.{FailedOnceAtMost, HasFailed};
+ghost use Rattle.ioa_device.specs.Failing.{HasFailed};
 ghost use Rattle.ioa_run.specs.Alone.{IsAloneSince, IsOutcomeFrom, NoMemory, RefusesResumed};
 ghost use Rattle.ioa_board.specs.Outcomes.{HaveEnded};
 ghost use Rattle.ioa_run.specs.TalliedRuns.{IsTallied};
@@ -72,8 +73,7 @@ pub fn run_file<H: Threads + Wait + Clock + Sync, F: Store, W: OutputDevice>(
     ensures runs { IfOk result.0 (λ served. IsRunServed (F.holds store.now) settings.now (W.contents output.old) (W.contents output.new) (reports_of served) (wants_of result.1) served.status) }
     ensures refused { IfErr result.0 (λ e. IsRunUnserved (F.holds store.now) (F.lacks store.now) settings.now (HasFailed (W.failure_count output.old) (W.failure_count output.new))
         (W.contents output.old) (W.contents output.new) (wants_of result.1) e) }
-    ensures passed { (IsErrOf result.0 (Failure.List LogErr.Io) → ⊥) → W.failure_count output.new ≡ W.failure_count output.old }
-    ensures once { FailedOnceAtMost (W.failure_count output.old) (W.failure_count output.new) }
+    ensures devices { PassesUnless (IsErrOf result.0 (Failure.List LogErr.Io)) (change W.contents W.failure_count output.old output.new) }
 {
     match run_settings(rt, alloc, settings, store) {
         Ok(ran) => {
@@ -98,8 +98,7 @@ fn serve_run<W: OutputDevice>(
         → reports_of s ≡ behind (table_told settings.now.reports ran.now) (told_coverage x settings.now.coverage (performed_in (logged ran.now.log) ∷ [])))
         × (s.status ≡ ending_status (log_end ran.now.log.end))) }
     ensures cut { IfErr result (λ e. IsCutShort (ran_text settings.now.log ran.now) (HasFailed (W.failure_count output.old) (W.failure_count output.new)) (W.contents output.old) (W.contents output.new) e) }
-    ensures passed { (IsErrOf result (Failure.List LogErr.Io) → ⊥) → W.failure_count output.new ≡ W.failure_count output.old }
-    ensures once { FailedOnceAtMost (W.failure_count output.old) (W.failure_count output.new) }
+    ensures devices { PassesUnless (IsErrOf result (Failure.List LogErr.Io)) (change W.contents W.failure_count output.old output.new) }
 {
     let reports = told_of(alloc, settings, ran)?;
     write_run(alloc, &ran.program, &ran.log, settings.log, output)?;
@@ -323,13 +322,7 @@ fn write_run<W: OutputDevice>(
     output: &mut W,
 ) -> Result<(), LogErr>
     requires { performed log.now.end ≤ length log.now.entries.items }
-    ensures ok { OnOk result (Appends (W.contents output.old) (W.contents output.new) (table_text program.now as_log (logged log.now) (performed log.now.end))) }
-    ensures io { IsErrOf result LogErr.Io → HasFailed (W.failure_count output.old) (W.failure_count output.new) }
-    ensures passed { (IsErrOf result LogErr.Io → ⊥) → W.failure_count output.new ≡ W.failure_count output.old }
-    ensures once { FailedOnceAtMost (W.failure_count output.old) (W.failure_count output.new) }
-    ensures begun { IsErrOf result LogErr.Io → (k : ℕ) × Appends (W.contents output.old) (W.contents output.new) (take k (table_text program.now as_log (logged log.now) (performed log.now.end))) }
-    ensures memory { IsErrOf result LogErr.OutOfMemory → Keeps (W.contents output.old) (W.contents output.new) }
-    ensures only { IfErr result (λ e. (e ≡ LogErr.Io) ⊎ (e ≡ LogErr.OutOfMemory)) }
+    ensures { Writes result (table_text program.now as_log (logged log.now) (performed log.now.end)) (change W.contents W.failure_count output.old output.new) }
 {
     if as_log {
         return write_log(alloc, program.types(), log, output);

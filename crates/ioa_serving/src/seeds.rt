@@ -1,20 +1,20 @@
 //! `run --seeds`: runs by many seeds of one program, which is read and compiled once, each told on a line.
 
-ghost use Rattle.std.specs.Prelude.{◌≡◌, ◌≢◌, ◌⊎◌, ◌↔◌, [], ℕ, List, None, Err, Ok, IsTrue, IfOk, IfErr, IsErrOf, OnErr, OnOk, is_some, length, map, option_map, take, true};
+ghost use Rattle.std.specs.Prelude.{◌≡◌, ◌≢◌, ◌⊎◌, ◌↔◌, [], List, None, Err, Ok, IsTrue, IfOk, IfErr, IsErrOf, OnErr, is_some, length, map, option_map, true};
 ghost use Rattle.std.specs.String.{string_bytes};
-ghost use Rattle.std.specs.Io.KnownBytes.{Appends, Keeps};
 ghost use Rattle.ioa_value.specs.Actions.{act_of};
 ghost use Rattle.ioa_compile.specs.Subjects.{RunsAs, Subject};
 ghost use Rattle.ioa_coverage.specs.Covered.{IsOriginOf};
 ghost use Rattle.ioa_system.specs.Logs.{logged};
+ghost use Rattle.ioa_device.specs.Devices.{PassesUnless, Writes, change};
 ghost use Rattle.ioa_device.specs.declared.failure.LogErr.{LogErr};
-ghost use Rattle.ioa_device.specs.Failing.{FailedOnceAtMost, HasFailed};
+ghost use Rattle.ioa_device.specs.Failing.{HasFailed};
 ghost use Rattle.ioa_request.specs.Pasted.{texts};
 ghost use Rattle.ioa_run.specs.Alone.{NoMemory, RefusesResumed};
 ghost use Rattle.ioa_board.specs.declared.run_err.RunErr.{RunErr};
 ghost use Rattle.ioa_serving.specs.Coverage.{told_coverage};
 ghost use Rattle.ioa_serving.specs.SeedRuns.{IsBegun, IsCovered, IsNoneRun, IsSeedJudgment, IsSeedRefused, IsSeedRun, IsTallyOf, IsTold, judged_of};
-ghost use Rattle.ioa_serving.specs.Devices.{files};
+ghost use Rattle.ioa_serving.specs.Worlds.{files};
 ghost use Rattle.ioa_serving.specs.Seeds.{IsSeedsServed, IsSeedsUnserved, Judged, monitors_of, performed_by_all, seed_line, seed_lines, seeds_text};
 ghost use Rattle.ioa_serving.specs.Serving.{reports_of};
 ghost use Rattle.ioa_serving.specs.declared.failure.Failure.{Failure};
@@ -58,8 +58,7 @@ pub fn run_seeds_file<F: Store, W: OutputDevice>(
     ensures refused { IfErr result (λ e. IsSeedsUnserved (files F.holds F.lacks F.begins F.bars F.saves store.old store.new) seeds.now
         (HasFailed (W.failure_count output.old) (W.failure_count output.new)) (W.contents output.old) (W.contents output.new) e) }
     ensures kept { (is_some seeds.now.keep ≡ true → ⊥) → store.new ≡ store.old }
-    ensures passed { (IsErrOf result (Failure.List LogErr.Io) → ⊥) → W.failure_count output.new ≡ W.failure_count output.old }
-    ensures once { FailedOnceAtMost (W.failure_count output.old) (W.failure_count output.new) }
+    ensures devices { PassesUnless (IsErrOf result (Failure.List LogErr.Io)) (change W.contents W.failure_count output.old output.new) }
 {
     let sown = load_sown(alloc, seeds, store)?;
     ask_keep(alloc, seeds.keep, store)?;
@@ -93,8 +92,7 @@ fn tell_all<'a, W: OutputDevice>(
         → option_map string_bytes t.coverage ≡ told_coverage x seeds.now.run.coverage (performed_by_all js))) }
     ensures refused { IfErr result (λ e. IsNoneRun sown.now seeds.now.run.turns (W.contents output.old) (W.contents output.new) e
         ⊎ IsBegun sown.now seeds.now (HasFailed (W.failure_count output.old) (W.failure_count output.new)) (W.contents output.old) (W.contents output.new) e) }
-    ensures passed { (IsErrOf result (Failure.List LogErr.Io) → ⊥) → W.failure_count output.new ≡ W.failure_count output.old }
-    ensures once { FailedOnceAtMost (W.failure_count output.old) (W.failure_count output.new) }
+    ensures devices { PassesUnless (IsErrOf result (Failure.List LogErr.Io)) (change W.contents W.failure_count output.old output.new) }
 {
     let tally = tell_runs(alloc, seeds, sown, output)?;
     let coverage = tally.coverage_text(alloc)?;
@@ -121,8 +119,7 @@ fn tell_runs<'a, W: OutputDevice>(
     ensures told { IfOk result (λ t. (js : List Judged) × IsTold sown.now seeds.now (seed_lines seeds.now.json (monitors_of seeds.now) seeds.now.first js) (W.contents output.old) (W.contents output.new) t js) }
     ensures refused { IfErr result (λ e. IsNoneRun sown.now seeds.now.run.turns (W.contents output.old) (W.contents output.new) e
         ⊎ IsBegun sown.now seeds.now (HasFailed (W.failure_count output.old) (W.failure_count output.new)) (W.contents output.old) (W.contents output.new) e) }
-    ensures passed { (IsErrOf result (Failure.List LogErr.Io) → ⊥) → W.failure_count output.new ≡ W.failure_count output.old }
-    ensures once { FailedOnceAtMost (W.failure_count output.old) (W.failure_count output.new) }
+    ensures devices { PassesUnless (IsErrOf result (Failure.List LogErr.Io)) (change W.contents W.failure_count output.old output.new) }
 {
     let mut tally = tally_before(alloc, sown, seeds.run.coverage)?;
     for number in seeds.first..=seeds.last {
@@ -206,13 +203,7 @@ fn tell_run<W: OutputDevice>(
     output: &mut W,
 ) -> Result<(), LogErr>
     requires { length judged.now.answers.items ≡ length names.now }
-    ensures ok { OnOk result (Appends (W.contents output.old) (W.contents output.new) (seed_line json (texts names.now) number (judged_of judged.now))) }
-    ensures io { IsErrOf result LogErr.Io → HasFailed (W.failure_count output.old) (W.failure_count output.new) }
-    ensures passed { (IsErrOf result LogErr.Io → ⊥) → W.failure_count output.new ≡ W.failure_count output.old }
-    ensures once { FailedOnceAtMost (W.failure_count output.old) (W.failure_count output.new) }
-    ensures begun { IsErrOf result LogErr.Io → (k : ℕ) × Appends (W.contents output.old) (W.contents output.new) (take k (seed_line json (texts names.now) number (judged_of judged.now))) }
-    ensures memory { IsErrOf result LogErr.OutOfMemory → Keeps (W.contents output.old) (W.contents output.new) }
-    ensures only { IfErr result (λ e. (e ≡ LogErr.Io) ⊎ (e ≡ LogErr.OutOfMemory)) }
+    ensures { Writes result (seed_line json (texts names.now) number (judged_of judged.now)) (change W.contents W.failure_count output.old output.new) }
 {
     let line = seed_text(alloc, json, names, number, judged)?;
     send_all(output, line.as_bytes())

@@ -14,8 +14,9 @@ ghost use Rattle.ioa_compile.specs.Subjects.{HoldsTyped, of_hosts};
 ghost use Rattle.ioa_system.specs.Outcomes.{ending_of};
 ghost use Rattle.ioa_system.specs.Systems.{values_of};
 ghost use Rattle.ioa_enabled.specs.Told.{ShareTypes};
+ghost use Rattle.ioa_device.specs.Devices.{BothPassUnless, FailsWhere, change};
 ghost use Rattle.ioa_device.specs.declared.failure.LogErr.{LogErr};
-ghost use Rattle.ioa_device.specs.Failing.{FailedOnceAtMost, HasFailed, IsListErr};
+ghost use Rattle.ioa_device.specs.Failing.{HasFailed, IsListErr};
 ghost use Rattle.ioa_serving.specs.Failing.{BeginsLogStatesOf, BeginsStatesOf, IsInvariantFailure, IsNoLogOf, IsStatesFailure, IsUnwritten};
 ghost use Rattle.ioa_serving.specs.Headline.{IsLogStatesReplay, IsStatesReplay};
 ghost use Rattle.ioa_serving.specs.States.{Reaches, ReachesByLog, shown_lines};
@@ -53,9 +54,7 @@ pub fn replay_states_text<R: InputDevice, W: OutputDevice>(
         (HasFailed (R.failure_count input.old) (R.failure_count input.new) ⊎ HasFailed (W.failure_count output.old) (W.failure_count output.new)) e) }
     ensures unwritten { IfErr result (λ e. IsUnwritten (BeginsStatesOf text.now (option_copied composition.entry) shown (R.remaining input.old))
         (W.contents output.old) (W.contents output.new) e) }
-    ensures passed { (IsErrOf result (Failure.List LogErr.Io) → ⊥)
-        → (R.failure_count input.new ≡ R.failure_count input.old) × (W.failure_count output.new ≡ W.failure_count output.old) }
-    ensures once { FailedOnceAtMost (R.failure_count input.old) (R.failure_count input.new) × FailedOnceAtMost (W.failure_count output.old) (W.failure_count output.new) }
+    ensures devices { BothPassUnless (IsErrOf result (Failure.List LogErr.Io)) (change R.remaining R.failure_count input.old input.new) (change W.contents W.failure_count output.old output.new) }
 {
     if is_object(text) {
         return Err(Failure::SourceWanted);
@@ -86,9 +85,7 @@ pub fn replay_log_states_text<R: InputDevice, W: OutputDevice>(
         (HasFailed (R.failure_count input.old) (R.failure_count input.new) ⊎ HasFailed (W.failure_count output.old) (W.failure_count output.new)) e) }
     ensures unwritten { IfErr result (λ e. IsUnwritten (BeginsLogStatesOf text.now (option_copied composition.entry) shown (R.remaining input.old))
         (W.contents output.old) (W.contents output.new) e) }
-    ensures passed { (IsErrOf result (Failure.List LogErr.Io) → ⊥)
-        → (R.failure_count input.new ≡ R.failure_count input.old) × (W.failure_count output.new ≡ W.failure_count output.old) }
-    ensures once { FailedOnceAtMost (R.failure_count input.old) (R.failure_count input.new) × FailedOnceAtMost (W.failure_count output.old) (W.failure_count output.new) }
+    ensures devices { BothPassUnless (IsErrOf result (Failure.List LogErr.Io)) (change R.remaining R.failure_count input.old input.new) (change W.contents W.failure_count output.old output.new) }
 {
     if is_object(text) {
         return Err(Failure::SourceWanted);
@@ -109,9 +106,7 @@ fn reached<R: InputDevice>(
     ensures reaches { IfOk result (λ told. (h : Hosted) → ShareTypes h → Simulates h (composed_of composition.now)
         → IfSome (R.remaining input.old) (λ bytes. Reaches h shown bytes (ending_of told.1) (string_bytes told.0))) }
     ensures bad { (n : ℕ) → IsErrOf result (LogErr.BadEntry n) → IfSome (R.remaining input.old) (λ bytes. BadLine composition.now.types bytes n) }
-    ensures io { IsErrOf result LogErr.Io → HasFailed (R.failure_count input.old) (R.failure_count input.new) }
-    ensures passed { (IsErrOf result LogErr.Io → ⊥) → R.failure_count input.new ≡ R.failure_count input.old }
-    ensures once { FailedOnceAtMost (R.failure_count input.old) (R.failure_count input.new) }
+    ensures devices { FailsWhere (IsErrOf result LogErr.Io) (change R.remaining R.failure_count input.old input.new) }
     ensures only { IfErr result IsListErr }
 {
     let program = compile(alloc, composition)?;
@@ -139,9 +134,7 @@ fn reached_by_log<R: InputDevice>(
         → IfSome (R.remaining input.old) (λ bytes. ReachesByLog h shown bytes (ending_of told.1) (string_bytes told.0))) }
     ensures refused { IfErr result (λ e. (h : Hosted) → Simulates h (composed_of composition.now)
         → IfSome (R.remaining input.old) (λ bytes. IsNoLogOf e (of_hosts h) bytes)) }
-    ensures io { IsErrOf result LogErr.Io → HasFailed (R.failure_count input.old) (R.failure_count input.new) }
-    ensures passed { (IsErrOf result LogErr.Io → ⊥) → R.failure_count input.new ≡ R.failure_count input.old }
-    ensures once { FailedOnceAtMost (R.failure_count input.old) (R.failure_count input.new) }
+    ensures devices { FailsWhere (IsErrOf result LogErr.Io) (change R.remaining R.failure_count input.old input.new) }
 {
     let program = compile(alloc, composition)?;
     let performed = perform_log(alloc, &program, input)?;

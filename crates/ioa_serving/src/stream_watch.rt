@@ -2,8 +2,9 @@
 
 ghost use Rattle.std.specs.Prelude.{◌≡◌, ◌⊎◌, IfOk, IfErr, IsErrOf};
 ghost use Rattle.std.specs.List.{list_any};
+ghost use Rattle.ioa_device.specs.Devices.{BothPassUnless, change};
 ghost use Rattle.ioa_device.specs.declared.failure.LogErr.{LogErr};
-ghost use Rattle.ioa_device.specs.Failing.{FailedOnceAtMost, HasFailed};
+ghost use Rattle.ioa_device.specs.Failing.{HasFailed};
 ghost use Rattle.ioa_request.specs.Pasted.{texts};
 ghost use Rattle.ioa_watch.specs.Streaming.{has_refused};
 ghost use Rattle.ioa_serving.specs.Serving.{reports_of};
@@ -43,9 +44,7 @@ pub fn watch_text<R: InputDevice, W: OutputDevice>(
     ensures refused { IfErr result (λ e. IsWatchFailure text.now (texts compositions.now) first json (R.remaining input.old)
         (HasFailed (R.failure_count input.old) (R.failure_count input.new) ⊎ HasFailed (W.failure_count output.old) (W.failure_count output.new))
         (W.contents output.old) (W.contents output.new) e) }
-    ensures passed { (IsErrOf result (Failure.List LogErr.Io) → ⊥)
-        → (R.failure_count input.new ≡ R.failure_count input.old) × (W.failure_count output.new ≡ W.failure_count output.old) }
-    ensures once { FailedOnceAtMost (R.failure_count input.old) (R.failure_count input.new) × FailedOnceAtMost (W.failure_count output.old) (W.failure_count output.new) }
+    ensures devices { BothPassUnless (IsErrOf result (Failure.List LogErr.Io)) (change R.remaining R.failure_count input.old input.new) (change W.contents W.failure_count output.old output.new) }
 {
     let given = specified_in(alloc, text, compositions)?;
     let watchers = watch(

@@ -1,10 +1,11 @@
 //! `monitor --strict`: whether a specification accepts what a log tells, takes some of it, and passes over nothing that has a name of its own.
 
-ghost use Rattle.std.specs.Prelude.{◌≡◌, ◌⊎◌, IfOk, IfErr, IfSome, IsErrOf};
+ghost use Rattle.std.specs.Prelude.{◌⊎◌, IfOk, IfErr, IfSome, IsErrOf};
 ghost use Rattle.std.specs.Option.{option_copied};
 ghost use Rattle.ioa_system.specs.Logs.{logged};
+ghost use Rattle.ioa_device.specs.Devices.{BothPassUnless, FailsWhere, change};
 ghost use Rattle.ioa_device.specs.declared.failure.LogErr.{LogErr};
-ghost use Rattle.ioa_device.specs.Failing.{FailedOnceAtMost, HasFailed, IsTextErr};
+ghost use Rattle.ioa_device.specs.Failing.{HasFailed, IsTextErr};
 ghost use Rattle.ioa_inspect.specs.LogMonitors.{IsNoText};
 ghost use Rattle.ioa_watch.specs.Watchers.{HasHeard};
 ghost use Rattle.ioa_serving.specs.Failing.{IsMonitorFailure, IsUnwritten};
@@ -43,9 +44,7 @@ pub fn strict_monitor_text<R: InputDevice, W: OutputDevice>(
         (HasFailed (R.failure_count input.old) (R.failure_count input.new) ⊎ HasFailed (W.failure_count output.old) (W.failure_count output.new)) e) }
     ensures unwritten { IfErr result (λ e. IsUnwritten (BeginsStrictOf json text.now (option_copied composition.entry) (R.remaining input.old))
         (W.contents output.old) (W.contents output.new) e) }
-    ensures passed { (IsErrOf result (Failure.List LogErr.Io) → ⊥)
-        → (R.failure_count input.new ≡ R.failure_count input.old) × (W.failure_count output.new ≡ W.failure_count output.old) }
-    ensures once { FailedOnceAtMost (R.failure_count input.old) (R.failure_count input.new) × FailedOnceAtMost (W.failure_count output.old) (W.failure_count output.new) }
+    ensures devices { BothPassUnless (IsErrOf result (Failure.List LogErr.Io)) (change R.remaining R.failure_count input.old input.new) (change W.contents W.failure_count output.old output.new) }
 {
     let program = program_of(alloc, text, composition)?;
     if hides_actions(&program) {
@@ -61,9 +60,7 @@ pub fn strict_monitor_text<R: InputDevice, W: OutputDevice>(
 fn ask<R: InputDevice>(alloc: Global, program: &Program, input: &mut R) -> Result<Verdict, LogErr>
     ensures answers { IfOk result (λ verdict. IfSome (R.remaining input.old) (λ bytes. AnswersStrictly program.now bytes (strict_of verdict))) }
     ensures refused { IfErr result (λ e. IfSome (R.remaining input.old) (λ bytes. IsNoText program.now.types bytes e)) }
-    ensures io { IsErrOf result LogErr.Io → HasFailed (R.failure_count input.old) (R.failure_count input.new) }
-    ensures passed { (IsErrOf result LogErr.Io → ⊥) → R.failure_count input.new ≡ R.failure_count input.old }
-    ensures once { FailedOnceAtMost (R.failure_count input.old) (R.failure_count input.new) }
+    ensures devices { FailsWhere (IsErrOf result LogErr.Io) (change R.remaining R.failure_count input.old input.new) }
     ensures only { IfErr result IsTextErr }
 {
     let log = read_log(alloc, program.types(), input)?;

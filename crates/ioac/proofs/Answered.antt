@@ -1,10 +1,10 @@
 -- What was served, or not, and what is told of it.
 use Rattle.std.proofs.Common.{◌≡◌, ◌∙◌, ◌⊎◌, ℕ, List, Option, Result, Ok, Err, IfOk, inl, inr}
 use Rattle.std.specs.Prelude.{IfErr}
+use Rattle.ioa_device.specs.Devices.{Change}
 use Rattle.ioa_serving.specs.declared.failure.Failure.{Failure}
 use Rattle.ioa_serving.specs.declared.served.Served.{Served}
 use Rattle.ioa_serving.specs.declared.status.Status.{Status}
-use Rattle.ioa_serving.specs.Devices.{Change}
 use Rattle.ioa_serving.specs.Serving.{reports_of}
 use Rattle.ioac.specs.Telling.{IsPut}
 

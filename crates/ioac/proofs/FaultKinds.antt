@@ -2,8 +2,8 @@
 use Rattle.std.proofs.Common.{◌≡◌, ◌≢◌, ℕ, ◌<◌, List, [], ◌∷◌, length, inl, inr, refl, arith}
 use Rattle.clap.specs.declared.error.kind.ErrorKind.{ErrorKind}
 use Rattle.clap.specs.declared.error.kind.ErrorKind.TheVariants as kinds
+use Rattle.ioa_device.specs.Devices.{Change, Untouched}
 use Rattle.ioa_serving.specs.declared.status.Status.{Status}
-use Rattle.ioa_serving.specs.Devices.{Change, Untouched}
 use Rattle.ioac.specs.Commands.{IsShown, IsUsage, usage_status}
 use Rattle.ioac.specs.Telling.{IsShort, IsTold}
 

@@ -1,10 +1,10 @@
 -- What the exit status tells of a failure that is told.
 use Rattle.std.proofs.Common.{◌≡◌, ℕ, List, Result, Ok, Err, inl, inr, ap, ◌∙◌}
 use Rattle.std.specs.Prelude.{IfErr, IsErrOf}
+use Rattle.ioa_device.specs.Devices.{Change}
 use Rattle.ioa_device.specs.declared.failure.LogErr.{LogErr}
 use Rattle.ioa_serving.specs.declared.failure.Failure.{Failure}
 use Rattle.ioa_serving.specs.declared.status.Status.{Status}
-use Rattle.ioa_serving.specs.Devices.{Change}
 use Rattle.ioa_serving.specs.Statuses.{failure_status}
 use Rattle.ioac.specs.Telling.{IsReported}
 

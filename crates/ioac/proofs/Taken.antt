@@ -3,6 +3,7 @@ use Rattle.std.proofs.Common.{◌≡◌, ◌⊎◌, ℕ, Bool, true, false, if�
 use Rattle.std.specs.Result.{IsErrOf}
 use Rattle.std.specs.Borrow.{Bor}
 use Rattle.clap.specs.Words.{Row, Text}
+use Rattle.ioa_device.specs.Devices.{change}
 use Rattle.ioa_device.specs.declared.failure.LogErr.{LogErr}
 use Rattle.ioa_device.specs.Failing.{FailedOnceAtMost}
 use Rattle.ioa_request.specs.declared.cut.Cut.{Cut}
@@ -13,7 +14,6 @@ use Rattle.ioa_serving.specs.declared.at_hand.AtHand.{AtHand}
 use Rattle.ioa_serving.specs.declared.failure.Failure.{Failure}
 use Rattle.ioa_serving.specs.declared.status.Status.{Status}
 use Rattle.ioa_serving.specs.AtHand.{failures_of}
-use Rattle.ioa_serving.specs.Devices.{change}
 use Rattle.ioa_serving.specs.Serving.{IsReading}
 use Rattle.ioa_serving.specs.Statuses.{failure_status}
 use Rattle.ioac.specs.Commands.{IsTakingErr, at_hand}

@@ -1,8 +1,8 @@
 -- What the words of a command line ask for, by what is read of them.
 use Rattle.std.proofs.Common.{◌≡◌, List, Option, inr, sym, subst}
 use Rattle.clap.specs.Words.{Row, Text, subcommand_of}
+use Rattle.ioa_device.specs.Devices.{Change, Untouched}
 use Rattle.ioa_serving.specs.declared.status.Status.{Status}
-use Rattle.ioa_serving.specs.Devices.{Change, Untouched}
 use Rattle.ioa_request.specs.declared.request.Request.{Request}
 use Rattle.ioa_request.specs.CommandLine.{HasNoFault, IsAskedBy, ioac_app}
 use Rattle.ioac.specs.Commands.{IsUnasked}

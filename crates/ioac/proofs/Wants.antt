@@ -1,10 +1,10 @@
 -- What is told, and then of workers to which memory was refused.
 use Rattle.std.proofs.Common.{◌≡◌, ◌++◌, ◌∙◌, ◌∷◌, ℕ, List, [], inl, inr, None, ap, append_assoc, refl, subst, take}
 use Rattle.std.proofs.KnownBytes.{Appends-trans}
+use Rattle.ioa_device.specs.Devices.{Change, Failed, Passed, Seen, Untouched, Wrote, onward, until}
 use Rattle.ioa_device.proofs.Pieces.{failed_since}
 use Rattle.ioa_serving.specs.declared.failure.Failure.{Failure}
 use Rattle.ioa_serving.specs.declared.status.Status.{Status}
-use Rattle.ioa_serving.specs.Devices.{Change, Failed, Passed, Seen, Untouched, Wrote, onward, until}
 use Rattle.ioa_serving.specs.Printed.{failure_text}
 use Rattle.ioa_serving.specs.Statuses.{failure_status}
 use Rattle.ioa_serving.proofs.Pieces.{begun_first, begun_last}

@@ -3,6 +3,7 @@ use Rattle.std.specs.Prelude.{◌≡◌, ℕ, ◌⊎◌, ◌++◌, ◌∷◌, �
 use Rattle.clap.specs.Words.{IsAmong, Text, fault_of, subcommand_of}
 use Rattle.clap.specs.declared.error.kind.ErrorKind.{ErrorKind}
 use Rattle.clap.specs.declared.error.kind.ErrorKind.TheVariants as kinds
+use Rattle.ioa_device.specs.Devices.{Change, Failed, Passed, Seen, Untouched, Wrote, onward, until}
 use Rattle.ioa_device.specs.declared.failure.LogErr.{LogErr}
 use Rattle.ioa_value.specs.Actions.{Name}
 use Rattle.ioa_serving.specs.declared.failure.Failure.{Failure}
@@ -14,7 +15,7 @@ use Rattle.ioa_request.specs.Cuts.{cut_of}
 use Rattle.ioac.specs.Refused.{IsFailureRemark}
 use Rattle.ioac.specs.Remarks.{IsRemark}
 use Rattle.ioa_serving.specs.Cuts.{cut_text}
-use Rattle.ioa_serving.specs.Devices.{Change, Failed, Passed, Seen, Untouched, World, Wrote, onward, until, world}
+use Rattle.ioa_serving.specs.Worlds.{World, world}
 use Rattle.ioa_serving.specs.Serving.{IsRunning, IsServed, IsUnserved}
 use Rattle.ioac.specs.Telling.{IsCut, IsPut, IsReported, IsShort, IsTold, unasked_text}
 

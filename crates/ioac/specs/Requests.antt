@@ -1,10 +1,11 @@
 -- What comes of a request that changes no file and runs nothing: `IsServed` and `IsUnserved`, where nothing is saved. One that does not read standard input
 -- leaves that unused.
 use Rattle.std.specs.Prelude.{[]}
+use Rattle.ioa_device.specs.Devices.{Change}
 use Rattle.ioa_request.specs.declared.request.Request.{Request}
 use Rattle.ioa_serving.specs.declared.failure.Failure.{Failure}
 use Rattle.ioa_serving.specs.declared.served.Served.{Served}
-use Rattle.ioa_serving.specs.Devices.{Change, Files}
+use Rattle.ioa_serving.specs.Worlds.{Files}
 use Rattle.ioa_serving.specs.Serving.{IsServed, IsUnserved, reports_of}
 
 abbrev pub Serves : Files → Request → Change → Change → Served → Type 0

@@ -4,11 +4,11 @@ use Rattle.std.specs.List.{join_by}
 use Rattle.std.specs.Option.{option_map_or}
 use Rattle.std.specs.Str.{bytes_eq}
 use Rattle.clap.specs.Words.{Row, Text, first_of}
+use Rattle.ioa_device.specs.Devices.{Change, Failed, Wrote}
 use Rattle.ioa_serving.specs.declared.failure.Failure.{Failure}
 use Rattle.ioa_serving.specs.declared.status.Status.{Status}
 use Rattle.ioa_request.specs.Codes.{all_codes, spelling}
 use Rattle.ioa_request.specs.CommandLine.{asks_seeds, is_set, mixes_json}
-use Rattle.ioa_serving.specs.Devices.{Change, Failed, Wrote}
 use Rattle.ioa_serving.specs.Printed.{failure_text}
 use Rattle.ioa_request.specs.Seeds.{range_in}
 use Rattle.ioa_request.specs.Selections.{bound_in}

@@ -1,12 +1,12 @@
 //! The command, from the words of a command line and its devices to an exit status.
 
 ghost use Rattle.std.specs.Prelude.{◌≡◌, ℕ, List, None, Some, true, map, IfOk, IfErr};
-ghost use Rattle.ioa_device.specs.Failing.{FailedOnceAtMost};
 ghost use Rattle.clap.specs.Words.{Text, subcommand_of, subcommand_rows_of};
+ghost use Rattle.ioa_device.specs.Devices.{AllPassUnless, PassesUnless, change};
 ghost use Rattle.ioa_request.specs.CommandLine.{HasNoFault, IsAsked, IsAskedBy, ioac_app};
 ghost use Rattle.ioac.specs.Commands.{AreWantsOf, IsAnswered, IsAnsweredAs, IsAnsweredOf, IsFinished, IsCommand};
 ghost use Rattle.ioa_serving.specs.Serving.{IsReading, IsSaving, IsServed, IsUnserved, reports_of, wants_of};
-ghost use Rattle.ioa_serving.specs.Devices.{change, files, world};
+ghost use Rattle.ioa_serving.specs.Worlds.{files, world};
 ghost use Rattle.ioac.specs.Telling.{IsReported};
 ghost use Rattle.ioa_serving.specs.Statuses.{number_of};
 ghost use Rattle.ioa_serving.specs.declared.status.Status.{Status};
@@ -57,8 +57,8 @@ pub fn command<
         (change E.contents E.failure_count errors.old errors.new)) status }
     ensures kept { ((request : Request) → IsAsked (map S.text words.now) request → IsSaving request → ⊥) → store.new ≡ store.old }
     ensures unread { ((request : Request) → IsAsked (map S.text words.now) request → IsReading request → ⊥) → input.new.inner ≡ input.old.inner }
-    ensures passed { (result ≡ number_of statuses.Unable → ⊥) → (R.failure_count input.new.inner ≡ R.failure_count input.old.inner) × (W.failure_count output.new ≡ W.failure_count output.old) × (E.failure_count errors.new ≡ E.failure_count errors.old) }
-    ensures once { FailedOnceAtMost (R.failure_count input.old.inner) (R.failure_count input.new.inner) × FailedOnceAtMost (W.failure_count output.old) (W.failure_count output.new) × FailedOnceAtMost (E.failure_count errors.old) (E.failure_count errors.new) }
+    ensures devices { AllPassUnless (result ≡ number_of statuses.Unable) (change R.remaining R.failure_count input.old.inner input.new.inner) (change W.contents W.failure_count output.old output.new)
+        (change E.contents E.failure_count errors.old errors.new) }
 {
     perform(rt, alloc, words, store, input, output, errors).number()
 }
@@ -86,8 +86,8 @@ fn perform<
         (change E.contents E.failure_count errors.old errors.new)) result }
     ensures kept { ((request : Request) → IsAsked (map S.text words.now) request → IsSaving request → ⊥) → store.new ≡ store.old }
     ensures unread { ((request : Request) → IsAsked (map S.text words.now) request → IsReading request → ⊥) → input.new.inner ≡ input.old.inner }
-    ensures passed { (result ≡ statuses.Unable → ⊥) → (R.failure_count input.new.inner ≡ R.failure_count input.old.inner) × (W.failure_count output.new ≡ W.failure_count output.old) × (E.failure_count errors.new ≡ E.failure_count errors.old) }
-    ensures once { FailedOnceAtMost (R.failure_count input.old.inner) (R.failure_count input.new.inner) × FailedOnceAtMost (W.failure_count output.old) (W.failure_count output.new) × FailedOnceAtMost (E.failure_count errors.old) (E.failure_count errors.new) }
+    ensures devices { AllPassUnless (result ≡ statuses.Unable) (change R.remaining R.failure_count input.old.inner input.new.inner) (change W.contents W.failure_count output.old output.new)
+        (change E.contents E.failure_count errors.old errors.new) }
 {
     match parse(alloc, words) {
         Ok(matches) => perform_read(rt, alloc, &matches, store, input, output, errors),
@@ -117,8 +117,8 @@ fn perform_read<
         (change E.contents E.failure_count errors.old errors.new)) result }
     ensures kept { ((request : Request) → IsAskedBy (subcommand_rows_of matches.now) request → IsSaving request → ⊥) → store.new ≡ store.old }
     ensures unread { ((request : Request) → IsAskedBy (subcommand_rows_of matches.now) request → IsReading request → ⊥) → input.new.inner ≡ input.old.inner }
-    ensures passed { (result ≡ statuses.Unable → ⊥) → (R.failure_count input.new.inner ≡ R.failure_count input.old.inner) × (W.failure_count output.new ≡ W.failure_count output.old) × (E.failure_count errors.new ≡ E.failure_count errors.old) }
-    ensures once { FailedOnceAtMost (R.failure_count input.old.inner) (R.failure_count input.new.inner) × FailedOnceAtMost (W.failure_count output.old) (W.failure_count output.new) × FailedOnceAtMost (E.failure_count errors.old) (E.failure_count errors.new) }
+    ensures devices { AllPassUnless (result ≡ statuses.Unable) (change R.remaining R.failure_count input.old.inner input.new.inner) (change W.contents W.failure_count output.old output.new)
+        (change E.contents E.failure_count errors.old errors.new) }
 {
     match read_request(matches) {
         Some(asked) => {
@@ -155,8 +155,8 @@ fn answer_of<
         (change E.contents E.failure_count errors.old errors.new)) asked.now result }
     ensures kept { (IsSaving asked.now → ⊥) → store.new ≡ store.old }
     ensures unread { cut ≡ None → (IsReading asked.now → ⊥) → input.new.inner ≡ input.old.inner }
-    ensures passed { (result ≡ statuses.Unable → ⊥) → (R.failure_count input.new.inner ≡ R.failure_count input.old.inner) × (W.failure_count output.new ≡ W.failure_count output.old) × (E.failure_count errors.new ≡ E.failure_count errors.old) }
-    ensures once { FailedOnceAtMost (R.failure_count input.old.inner) (R.failure_count input.new.inner) × FailedOnceAtMost (W.failure_count output.old) (W.failure_count output.new) × FailedOnceAtMost (E.failure_count errors.old) (E.failure_count errors.new) }
+    ensures devices { AllPassUnless (result ≡ statuses.Unable) (change R.remaining R.failure_count input.old.inner input.new.inner) (change W.contents W.failure_count output.old output.new)
+        (change E.contents E.failure_count errors.old errors.new) }
 {
     match cut {
         Some(cut) => answer_cut(
@@ -188,8 +188,8 @@ fn answer_cut<
         (change R.remaining R.failure_count input.old.inner input.new.inner) (change W.contents W.failure_count output.old output.new)
         (change E.contents E.failure_count errors.old errors.new)) asked.now result }
     ensures kept { (IsSaving asked.now → ⊥) → store.new ≡ store.old }
-    ensures passed { (result ≡ statuses.Unable → ⊥) → (R.failure_count input.new.inner ≡ R.failure_count input.old.inner) × (W.failure_count output.new ≡ W.failure_count output.old) × (E.failure_count errors.new ≡ E.failure_count errors.old) }
-    ensures once { FailedOnceAtMost (R.failure_count input.old.inner) (R.failure_count input.new.inner) × FailedOnceAtMost (W.failure_count output.old) (W.failure_count output.new) × FailedOnceAtMost (E.failure_count errors.old) (E.failure_count errors.new) }
+    ensures devices { AllPassUnless (result ≡ statuses.Unable) (change R.remaining R.failure_count input.old.inner input.new.inner) (change W.contents W.failure_count output.old output.new)
+        (change E.contents E.failure_count errors.old errors.new) }
 {
     match cut_text(alloc, cut, input) {
         Ok(text) => {
@@ -225,8 +225,8 @@ fn answer_as<
         (change E.contents E.failure_count errors.old errors.new)) asked.now result }
     ensures kept { (IsSaving asked.now → ⊥) → store.new ≡ store.old }
     ensures unread { (IsReading asked.now → ⊥) → input.new.inner ≡ input.old.inner }
-    ensures passed { (result ≡ statuses.Unable → ⊥) → (R.failure_count input.new.inner ≡ R.failure_count input.old.inner) × (W.failure_count output.new ≡ W.failure_count output.old) × (E.failure_count errors.new ≡ E.failure_count errors.old) }
-    ensures once { FailedOnceAtMost (R.failure_count input.old.inner) (R.failure_count input.new.inner) × FailedOnceAtMost (W.failure_count output.old) (W.failure_count output.new) × FailedOnceAtMost (E.failure_count errors.old) (E.failure_count errors.new) }
+    ensures devices { AllPassUnless (result ≡ statuses.Unable) (change R.remaining R.failure_count input.old.inner input.new.inner) (change W.contents W.failure_count output.old output.new)
+        (change E.contents E.failure_count errors.old errors.new) }
 {
     if explains {
         return answer_and_explain(rt, alloc, asked, store, input, output, errors);
@@ -255,8 +255,8 @@ fn answer_and_explain<
         (change E.contents E.failure_count errors.old errors.new)) asked.now result }
     ensures kept { (IsSaving asked.now → ⊥) → store.new ≡ store.old }
     ensures unread { (IsReading asked.now → ⊥) → input.new.inner ≡ input.old.inner }
-    ensures passed { (result ≡ statuses.Unable → ⊥) → (R.failure_count input.new.inner ≡ R.failure_count input.old.inner) × (W.failure_count output.new ≡ W.failure_count output.old) × (E.failure_count errors.new ≡ E.failure_count errors.old) }
-    ensures once { FailedOnceAtMost (R.failure_count input.old.inner) (R.failure_count input.new.inner) × FailedOnceAtMost (W.failure_count output.old) (W.failure_count output.new) × FailedOnceAtMost (E.failure_count errors.old) (E.failure_count errors.new) }
+    ensures devices { AllPassUnless (result ≡ statuses.Unable) (change R.remaining R.failure_count input.old.inner input.new.inner) (change W.contents W.failure_count output.old output.new)
+        (change E.contents E.failure_count errors.old errors.new) }
 {
     keep_heard(alloc, asked, input);
     let failures = errors.failures();
@@ -299,8 +299,8 @@ fn answer<
         (change E.contents E.failure_count errors.old errors.new)) asked.now result }
     ensures kept { (IsSaving asked.now → ⊥) → store.new ≡ store.old }
     ensures unread { (IsReading asked.now → ⊥) → input.new ≡ input.old }
-    ensures passed { (result ≡ statuses.Unable → ⊥) → (R.failure_count input.new ≡ R.failure_count input.old) × (W.failure_count output.new ≡ W.failure_count output.old) × (E.failure_count errors.new ≡ E.failure_count errors.old) }
-    ensures once { FailedOnceAtMost (R.failure_count input.old) (R.failure_count input.new) × FailedOnceAtMost (W.failure_count output.old) (W.failure_count output.new) × FailedOnceAtMost (E.failure_count errors.old) (E.failure_count errors.new) }
+    ensures devices { AllPassUnless (result ≡ statuses.Unable) (change R.remaining R.failure_count input.old input.new) (change W.contents W.failure_count output.old output.new)
+        (change E.contents E.failure_count errors.old errors.new) }
 {
     let (_served, _ran, status) = serve_and_tell(rt, alloc, asked, store, input, output, errors);
     status
@@ -332,8 +332,8 @@ fn serve_and_tell<
         × IsReported e wants (change E.contents E.failure_count errors.old errors.new) result.2) }
     ensures kept { (IsSaving asked.now → ⊥) → store.new ≡ store.old }
     ensures unread { (IsReading asked.now → ⊥) → input.new ≡ input.old }
-    ensures passed { (result.2 ≡ statuses.Unable → ⊥) → (R.failure_count input.new ≡ R.failure_count input.old) × (W.failure_count output.new ≡ W.failure_count output.old) × (E.failure_count errors.new ≡ E.failure_count errors.old) }
-    ensures once { FailedOnceAtMost (R.failure_count input.old) (R.failure_count input.new) × FailedOnceAtMost (W.failure_count output.old) (W.failure_count output.new) × FailedOnceAtMost (E.failure_count errors.old) (E.failure_count errors.new) }
+    ensures devices { AllPassUnless (result.2 ≡ statuses.Unable) (change R.remaining R.failure_count input.old input.new) (change W.contents W.failure_count output.old output.new)
+        (change E.contents E.failure_count errors.old errors.new) }
 {
     let (served, ran) = serve(rt, alloc, asked, store, input, output);
     let status = settle(alloc, &served, &ran, errors);
@@ -351,8 +351,7 @@ fn settle<E: OutputDevice>(
         (change E.contents E.failure_count errors.old errors.new) result) }
     ensures reports { IfErr served.now (λ e. IsReported e (wants_of ran.now)
         (change E.contents E.failure_count errors.old errors.new) result) }
-    ensures passed { (result ≡ statuses.Unable → ⊥) → E.failure_count errors.new ≡ E.failure_count errors.old }
-    ensures once { FailedOnceAtMost (E.failure_count errors.old) (E.failure_count errors.new) }
+    ensures devices { PassesUnless (result ≡ statuses.Unable) (change E.contents E.failure_count errors.old errors.new) }
 {
     match served {
         Ok(served) => finish(served, ran, errors),

@@ -2,10 +2,10 @@
 
 ghost use Rattle.std.specs.Prelude.{◌≡◌, [], None, IfOk, IfErr, IsErrOf, option_map};
 ghost use Rattle.ioa_system.specs.Outcomes.{ending_of};
+ghost use Rattle.ioa_device.specs.Devices.{BothPassUnless, PassesUnless, change, unused};
 ghost use Rattle.ioa_device.specs.declared.failure.LogErr.{LogErr};
-ghost use Rattle.ioa_device.specs.Failing.{FailedOnceAtMost};
 ghost use Rattle.ioa_request.specs.declared.request.Request.TheVariants as requests;
-ghost use Rattle.ioa_serving.specs.Devices.{change, files, no_files, read_only, unused};
+ghost use Rattle.ioa_serving.specs.Worlds.{files, no_files, read_only};
 ghost use Rattle.ioa_serving.specs.Logs.{found_of};
 ghost use Rattle.ioa_serving.specs.Serving.{IsReading, IsRunning, IsSaving, IsServed, IsUnserved, reports_of, wants_of};
 ghost use Rattle.ioa_serving.specs.Statuses.{answer_status, ending_status, found_status};
@@ -48,8 +48,7 @@ pub(crate) fn serve<H: Threads + Wait + Clock + Sync, F: Store, R: InputDevice, 
     ensures silent { (IsRunning asked.now → ⊥) → result.1 ≡ None }
     ensures kept { (IsSaving asked.now → ⊥) → store.new ≡ store.old }
     ensures unread { (IsReading asked.now → ⊥) → input.new ≡ input.old }
-    ensures passed { (IsErrOf result.0 (Failure.List LogErr.Io) → ⊥) → (R.failure_count input.new ≡ R.failure_count input.old) × (W.failure_count output.new ≡ W.failure_count output.old) }
-    ensures once { FailedOnceAtMost (R.failure_count input.old) (R.failure_count input.new) × FailedOnceAtMost (W.failure_count output.old) (W.failure_count output.new) }
+    ensures devices { BothPassUnless (IsErrOf result.0 (Failure.List LogErr.Io)) (change R.remaining R.failure_count input.old input.new) (change W.contents W.failure_count output.old output.new) }
 {
     match asked {
         Request::Replay {
@@ -184,8 +183,7 @@ fn replay<F: Store, R: InputDevice, W: OutputDevice>(
 ) -> Result<Served, Failure>
     ensures served { IfOk result (λ s. Serves (read_only F.holds F.lacks store.now) (requests.Replay file.entry composition.entry json) (change R.remaining R.failure_count input.old input.new) (change W.contents W.failure_count output.old output.new) s) }
     ensures refused { IfErr result (λ e. Fails (read_only F.holds F.lacks store.now) (requests.Replay file.entry composition.entry json) (change R.remaining R.failure_count input.old input.new) (change W.contents W.failure_count output.old output.new) e) }
-    ensures passed { (IsErrOf result (Failure.List LogErr.Io) → ⊥) → (R.failure_count input.new ≡ R.failure_count input.old) × (W.failure_count output.new ≡ W.failure_count output.old) }
-    ensures once { FailedOnceAtMost (R.failure_count input.old) (R.failure_count input.new) × FailedOnceAtMost (W.failure_count output.old) (W.failure_count output.new) }
+    ensures devices { BothPassUnless (IsErrOf result (Failure.List LogErr.Io)) (change R.remaining R.failure_count input.old input.new) (change W.contents W.failure_count output.old output.new) }
 {
     let text = store.load(alloc, file)?;
     let end = replay_in_form(alloc, text.as_slice(), composition, json, input, output)?;
@@ -204,8 +202,7 @@ fn replay_states<F: Store, R: InputDevice, W: OutputDevice>(
 ) -> Result<Served, Failure>
     ensures served { IfOk result (λ s. Serves (read_only F.holds F.lacks store.now) (requests.ReplayStates file.entry composition.entry shown) (change R.remaining R.failure_count input.old input.new) (change W.contents W.failure_count output.old output.new) s) }
     ensures refused { IfErr result (λ e. Fails (read_only F.holds F.lacks store.now) (requests.ReplayStates file.entry composition.entry shown) (change R.remaining R.failure_count input.old input.new) (change W.contents W.failure_count output.old output.new) e) }
-    ensures passed { (IsErrOf result (Failure.List LogErr.Io) → ⊥) → (R.failure_count input.new ≡ R.failure_count input.old) × (W.failure_count output.new ≡ W.failure_count output.old) }
-    ensures once { FailedOnceAtMost (R.failure_count input.old) (R.failure_count input.new) × FailedOnceAtMost (W.failure_count output.old) (W.failure_count output.new) }
+    ensures devices { BothPassUnless (IsErrOf result (Failure.List LogErr.Io)) (change R.remaining R.failure_count input.old input.new) (change W.contents W.failure_count output.old output.new) }
 {
     let text = store.load(alloc, file)?;
     let end = replay_states_text(alloc, text.as_slice(), composition, shown, input, output)?;
@@ -224,8 +221,7 @@ fn replay_log<F: Store, R: InputDevice, W: OutputDevice>(
 ) -> Result<Served, Failure>
     ensures served { IfOk result (λ s. Serves (read_only F.holds F.lacks store.now) (requests.ReplayLog file.entry composition.entry json) (change R.remaining R.failure_count input.old input.new) (change W.contents W.failure_count output.old output.new) s) }
     ensures refused { IfErr result (λ e. Fails (read_only F.holds F.lacks store.now) (requests.ReplayLog file.entry composition.entry json) (change R.remaining R.failure_count input.old input.new) (change W.contents W.failure_count output.old output.new) e) }
-    ensures passed { (IsErrOf result (Failure.List LogErr.Io) → ⊥) → (R.failure_count input.new ≡ R.failure_count input.old) × (W.failure_count output.new ≡ W.failure_count output.old) }
-    ensures once { FailedOnceAtMost (R.failure_count input.old) (R.failure_count input.new) × FailedOnceAtMost (W.failure_count output.old) (W.failure_count output.new) }
+    ensures devices { BothPassUnless (IsErrOf result (Failure.List LogErr.Io)) (change R.remaining R.failure_count input.old input.new) (change W.contents W.failure_count output.old output.new) }
 {
     let text = store.load(alloc, file)?;
     let end = replay_log_in_form(alloc, text.as_slice(), composition, json, input, output)?;
@@ -244,8 +240,7 @@ fn replay_log_states<F: Store, R: InputDevice, W: OutputDevice>(
 ) -> Result<Served, Failure>
     ensures served { IfOk result (λ s. Serves (read_only F.holds F.lacks store.now) (requests.ReplayLogStates file.entry composition.entry shown) (change R.remaining R.failure_count input.old input.new) (change W.contents W.failure_count output.old output.new) s) }
     ensures refused { IfErr result (λ e. Fails (read_only F.holds F.lacks store.now) (requests.ReplayLogStates file.entry composition.entry shown) (change R.remaining R.failure_count input.old input.new) (change W.contents W.failure_count output.old output.new) e) }
-    ensures passed { (IsErrOf result (Failure.List LogErr.Io) → ⊥) → (R.failure_count input.new ≡ R.failure_count input.old) × (W.failure_count output.new ≡ W.failure_count output.old) }
-    ensures once { FailedOnceAtMost (R.failure_count input.old) (R.failure_count input.new) × FailedOnceAtMost (W.failure_count output.old) (W.failure_count output.new) }
+    ensures devices { BothPassUnless (IsErrOf result (Failure.List LogErr.Io)) (change R.remaining R.failure_count input.old input.new) (change W.contents W.failure_count output.old output.new) }
 {
     let text = store.load(alloc, file)?;
     let end = replay_log_states_text(alloc, text.as_slice(), composition, shown, input, output)?;
@@ -264,8 +259,7 @@ fn replay_invariants<F: Store, R: InputDevice, W: OutputDevice>(
 ) -> Result<Served, Failure>
     ensures served { IfOk result (λ s. Serves (read_only F.holds F.lacks store.now) (requests.ReplayInvariants file.entry composition.entry json) (change R.remaining R.failure_count input.old input.new) (change W.contents W.failure_count output.old output.new) s) }
     ensures refused { IfErr result (λ e. Fails (read_only F.holds F.lacks store.now) (requests.ReplayInvariants file.entry composition.entry json) (change R.remaining R.failure_count input.old input.new) (change W.contents W.failure_count output.old output.new) e) }
-    ensures passed { (IsErrOf result (Failure.List LogErr.Io) → ⊥) → (R.failure_count input.new ≡ R.failure_count input.old) × (W.failure_count output.new ≡ W.failure_count output.old) }
-    ensures once { FailedOnceAtMost (R.failure_count input.old) (R.failure_count input.new) × FailedOnceAtMost (W.failure_count output.old) (W.failure_count output.new) }
+    ensures devices { BothPassUnless (IsErrOf result (Failure.List LogErr.Io)) (change R.remaining R.failure_count input.old input.new) (change W.contents W.failure_count output.old output.new) }
 {
     let text = store.load(alloc, file)?;
     let bytes = text.as_slice();
@@ -286,8 +280,7 @@ fn replay_coverage<F: Store, R: InputDevice, W: OutputDevice>(
 ) -> Result<Served, Failure>
     ensures served { IfOk result (λ s. Serves (read_only F.holds F.lacks store.now) (requests.ReplayCoverage file.entry composition.entry log json) (change R.remaining R.failure_count input.old input.new) (change W.contents W.failure_count output.old output.new) s) }
     ensures refused { IfErr result (λ e. Fails (read_only F.holds F.lacks store.now) (requests.ReplayCoverage file.entry composition.entry log json) (change R.remaining R.failure_count input.old input.new) (change W.contents W.failure_count output.old output.new) e) }
-    ensures passed { (IsErrOf result (Failure.List LogErr.Io) → ⊥) → (R.failure_count input.new ≡ R.failure_count input.old) × (W.failure_count output.new ≡ W.failure_count output.old) }
-    ensures once { FailedOnceAtMost (R.failure_count input.old) (R.failure_count input.new) × FailedOnceAtMost (W.failure_count output.old) (W.failure_count output.new) }
+    ensures devices { BothPassUnless (IsErrOf result (Failure.List LogErr.Io)) (change R.remaining R.failure_count input.old input.new) (change W.contents W.failure_count output.old output.new) }
 {
     let text = store.load(alloc, file)?;
     let (told, end) = replay_coverage_text(
@@ -316,8 +309,7 @@ fn log<F: Store, R: InputDevice, W: OutputDevice>(
 ) -> Result<Served, Failure>
     ensures served { IfOk result (λ s. Serves (read_only F.holds F.lacks store.now) (requests.Log file.entry composition.entry) (change R.remaining R.failure_count input.old input.new) (change W.contents W.failure_count output.old output.new) s) }
     ensures refused { IfErr result (λ e. Fails (read_only F.holds F.lacks store.now) (requests.Log file.entry composition.entry) (change R.remaining R.failure_count input.old input.new) (change W.contents W.failure_count output.old output.new) e) }
-    ensures passed { (IsErrOf result (Failure.List LogErr.Io) → ⊥) → (R.failure_count input.new ≡ R.failure_count input.old) × (W.failure_count output.new ≡ W.failure_count output.old) }
-    ensures once { FailedOnceAtMost (R.failure_count input.old) (R.failure_count input.new) × FailedOnceAtMost (W.failure_count output.old) (W.failure_count output.new) }
+    ensures devices { BothPassUnless (IsErrOf result (Failure.List LogErr.Io)) (change R.remaining R.failure_count input.old input.new) (change W.contents W.failure_count output.old output.new) }
 {
     let text = store.load(alloc, file)?;
     let end = log_list_text(alloc, text.as_slice(), composition, input, output)?;
@@ -335,8 +327,7 @@ fn log_by_log<F: Store, R: InputDevice, W: OutputDevice>(
 ) -> Result<Served, Failure>
     ensures served { IfOk result (λ s. Serves (read_only F.holds F.lacks store.now) (requests.LogByLog file.entry composition.entry) (change R.remaining R.failure_count input.old input.new) (change W.contents W.failure_count output.old output.new) s) }
     ensures refused { IfErr result (λ e. Fails (read_only F.holds F.lacks store.now) (requests.LogByLog file.entry composition.entry) (change R.remaining R.failure_count input.old input.new) (change W.contents W.failure_count output.old output.new) e) }
-    ensures passed { (IsErrOf result (Failure.List LogErr.Io) → ⊥) → (R.failure_count input.new ≡ R.failure_count input.old) × (W.failure_count output.new ≡ W.failure_count output.old) }
-    ensures once { FailedOnceAtMost (R.failure_count input.old) (R.failure_count input.new) × FailedOnceAtMost (W.failure_count output.old) (W.failure_count output.new) }
+    ensures devices { BothPassUnless (IsErrOf result (Failure.List LogErr.Io)) (change R.remaining R.failure_count input.old input.new) (change W.contents W.failure_count output.old output.new) }
 {
     let text = store.load(alloc, file)?;
     let end = log_log_text(alloc, text.as_slice(), composition, input, output)?;
@@ -354,8 +345,7 @@ fn monitor<F: Store, R: InputDevice, W: OutputDevice>(
 ) -> Result<Served, Failure>
     ensures served { IfOk result (λ s. Serves (read_only F.holds F.lacks store.now) (requests.Monitor file.entry composition.entry) (change R.remaining R.failure_count input.old input.new) (change W.contents W.failure_count output.old output.new) s) }
     ensures refused { IfErr result (λ e. Fails (read_only F.holds F.lacks store.now) (requests.Monitor file.entry composition.entry) (change R.remaining R.failure_count input.old input.new) (change W.contents W.failure_count output.old output.new) e) }
-    ensures passed { (IsErrOf result (Failure.List LogErr.Io) → ⊥) → (R.failure_count input.new ≡ R.failure_count input.old) × (W.failure_count output.new ≡ W.failure_count output.old) }
-    ensures once { FailedOnceAtMost (R.failure_count input.old) (R.failure_count input.new) × FailedOnceAtMost (W.failure_count output.old) (W.failure_count output.new) }
+    ensures devices { BothPassUnless (IsErrOf result (Failure.List LogErr.Io)) (change R.remaining R.failure_count input.old input.new) (change W.contents W.failure_count output.old output.new) }
 {
     let text = store.load(alloc, file)?;
     let answer = monitor_text(alloc, text.as_slice(), composition, false, input, output)?;
@@ -373,8 +363,7 @@ fn monitor_json<F: Store, R: InputDevice, W: OutputDevice>(
 ) -> Result<Served, Failure>
     ensures served { IfOk result (λ s. Serves (read_only F.holds F.lacks store.now) (requests.MonitorJson file.entry composition.entry) (change R.remaining R.failure_count input.old input.new) (change W.contents W.failure_count output.old output.new) s) }
     ensures refused { IfErr result (λ e. Fails (read_only F.holds F.lacks store.now) (requests.MonitorJson file.entry composition.entry) (change R.remaining R.failure_count input.old input.new) (change W.contents W.failure_count output.old output.new) e) }
-    ensures passed { (IsErrOf result (Failure.List LogErr.Io) → ⊥) → (R.failure_count input.new ≡ R.failure_count input.old) × (W.failure_count output.new ≡ W.failure_count output.old) }
-    ensures once { FailedOnceAtMost (R.failure_count input.old) (R.failure_count input.new) × FailedOnceAtMost (W.failure_count output.old) (W.failure_count output.new) }
+    ensures devices { BothPassUnless (IsErrOf result (Failure.List LogErr.Io)) (change R.remaining R.failure_count input.old input.new) (change W.contents W.failure_count output.old output.new) }
 {
     let text = store.load(alloc, file)?;
     let answer = monitor_text(alloc, text.as_slice(), composition, true, input, output)?;
@@ -393,8 +382,7 @@ fn monitor_strictly<F: Store, R: InputDevice, W: OutputDevice>(
 ) -> Result<Served, Failure>
     ensures served { IfOk result (λ s. Serves (read_only F.holds F.lacks store.now) (requests.StrictMonitor file.entry composition.entry json) (change R.remaining R.failure_count input.old input.new) (change W.contents W.failure_count output.old output.new) s) }
     ensures refused { IfErr result (λ e. Fails (read_only F.holds F.lacks store.now) (requests.StrictMonitor file.entry composition.entry json) (change R.remaining R.failure_count input.old input.new) (change W.contents W.failure_count output.old output.new) e) }
-    ensures passed { (IsErrOf result (Failure.List LogErr.Io) → ⊥) → (R.failure_count input.new ≡ R.failure_count input.old) × (W.failure_count output.new ≡ W.failure_count output.old) }
-    ensures once { FailedOnceAtMost (R.failure_count input.old) (R.failure_count input.new) × FailedOnceAtMost (W.failure_count output.old) (W.failure_count output.new) }
+    ensures devices { BothPassUnless (IsErrOf result (Failure.List LogErr.Io)) (change R.remaining R.failure_count input.old input.new) (change W.contents W.failure_count output.old output.new) }
 {
     let text = store.load(alloc, file)?;
     let bytes = text.as_slice();
@@ -416,8 +404,7 @@ fn watch<F: Store, R: InputDevice, W: OutputDevice>(
 ) -> Result<Served, Failure>
     ensures served { IfOk result (λ s. Serves (read_only F.holds F.lacks store.now) (requests.Watch file.entry compositions.entry first counts json) (change R.remaining R.failure_count input.old input.new) (change W.contents W.failure_count output.old output.new) s) }
     ensures refused { IfErr result (λ e. Fails (read_only F.holds F.lacks store.now) (requests.Watch file.entry compositions.entry first counts json) (change R.remaining R.failure_count input.old input.new) (change W.contents W.failure_count output.old output.new) e) }
-    ensures passed { (IsErrOf result (Failure.List LogErr.Io) → ⊥) → (R.failure_count input.new ≡ R.failure_count input.old) × (W.failure_count output.new ≡ W.failure_count output.old) }
-    ensures once { FailedOnceAtMost (R.failure_count input.old) (R.failure_count input.new) × FailedOnceAtMost (W.failure_count output.old) (W.failure_count output.new) }
+    ensures devices { BothPassUnless (IsErrOf result (Failure.List LogErr.Io)) (change R.remaining R.failure_count input.old input.new) (change W.contents W.failure_count output.old output.new) }
 {
     let text = store.load(alloc, file)?;
     watch_text(
@@ -444,8 +431,7 @@ fn chart<F: Store, R: InputDevice, W: OutputDevice>(
 ) -> Result<Served, Failure>
     ensures served { IfOk result (λ s. Serves (read_only F.holds F.lacks store.now) (requests.Chart file.entry composition.entry selection.now) (change R.remaining R.failure_count input.old input.new) (change W.contents W.failure_count output.old output.new) s) }
     ensures refused { IfErr result (λ e. Fails (read_only F.holds F.lacks store.now) (requests.Chart file.entry composition.entry selection.now) (change R.remaining R.failure_count input.old input.new) (change W.contents W.failure_count output.old output.new) e) }
-    ensures passed { (IsErrOf result (Failure.List LogErr.Io) → ⊥) → (R.failure_count input.new ≡ R.failure_count input.old) × (W.failure_count output.new ≡ W.failure_count output.old) }
-    ensures once { FailedOnceAtMost (R.failure_count input.old) (R.failure_count input.new) × FailedOnceAtMost (W.failure_count output.old) (W.failure_count output.new) }
+    ensures devices { BothPassUnless (IsErrOf result (Failure.List LogErr.Io)) (change R.remaining R.failure_count input.old input.new) (change W.contents W.failure_count output.old output.new) }
 {
     let text = store.load(alloc, file)?;
     let bytes = text.as_slice();
@@ -463,8 +449,7 @@ fn graph<F: Store, W: OutputDevice>(
 ) -> Result<Served, Failure>
     ensures served { IfOk result (λ s. Serves (read_only F.holds F.lacks store.now) (requests.Graph file.entry composition.entry) unused (change W.contents W.failure_count output.old output.new) s) }
     ensures refused { IfErr result (λ e. Fails (read_only F.holds F.lacks store.now) (requests.Graph file.entry composition.entry) unused (change W.contents W.failure_count output.old output.new) e) }
-    ensures passed { (IsErrOf result (Failure.List LogErr.Io) → ⊥) → W.failure_count output.new ≡ W.failure_count output.old }
-    ensures once { FailedOnceAtMost (W.failure_count output.old) (W.failure_count output.new) }
+    ensures devices { PassesUnless (IsErrOf result (Failure.List LogErr.Io)) (change W.contents W.failure_count output.old output.new) }
 {
     let text = store.load(alloc, file)?;
     graph_text(alloc, text.as_slice(), composition, output)?;
@@ -481,8 +466,7 @@ fn check<F: Store, W: OutputDevice>(
 ) -> Result<Served, Failure>
     ensures served { IfOk result (λ s. Serves (read_only F.holds F.lacks store.now) (requests.Check file.entry compositions) unused (change W.contents W.failure_count output.old output.new) s) }
     ensures refused { IfErr result (λ e. Fails (read_only F.holds F.lacks store.now) (requests.Check file.entry compositions) unused (change W.contents W.failure_count output.old output.new) e) }
-    ensures passed { (IsErrOf result (Failure.List LogErr.Io) → ⊥) → W.failure_count output.new ≡ W.failure_count output.old }
-    ensures once { FailedOnceAtMost (W.failure_count output.old) (W.failure_count output.new) }
+    ensures devices { PassesUnless (IsErrOf result (Failure.List LogErr.Io)) (change W.contents W.failure_count output.old output.new) }
 {
     let text = store.load(alloc, file)?;
     check_text(alloc, text.as_slice(), compositions, output)?;
@@ -498,8 +482,7 @@ fn dump<F: Store, W: OutputDevice>(
 ) -> Result<Served, Failure>
     ensures served { IfOk result (λ s. Serves (read_only F.holds F.lacks store.now) (requests.Dump file.entry) unused (change W.contents W.failure_count output.old output.new) s) }
     ensures refused { IfErr result (λ e. Fails (read_only F.holds F.lacks store.now) (requests.Dump file.entry) unused (change W.contents W.failure_count output.old output.new) e) }
-    ensures passed { (IsErrOf result (Failure.List LogErr.Io) → ⊥) → W.failure_count output.new ≡ W.failure_count output.old }
-    ensures once { FailedOnceAtMost (W.failure_count output.old) (W.failure_count output.new) }
+    ensures devices { PassesUnless (IsErrOf result (Failure.List LogErr.Io)) (change W.contents W.failure_count output.old output.new) }
 {
     let object = store.load(alloc, file)?;
     dump_object(alloc, object.as_slice(), output)?;
@@ -517,8 +500,7 @@ fn compile<F: Store, W: OutputDevice>(
 ) -> Result<Served, Failure>
     ensures served { IfOk result (λ s. IsServed (files F.holds F.lacks F.begins F.bars F.saves store.old store.new) (requests.Compile file.entry out.entry composition.entry) unused (change W.contents W.failure_count output.old output.new) (reports_of s) [] s.status) }
     ensures refused { IfErr result (λ e. IsUnserved (files F.holds F.lacks F.begins F.bars F.saves store.old store.new) (requests.Compile file.entry out.entry composition.entry) unused (change W.contents W.failure_count output.old output.new) [] e) }
-    ensures passed { (IsErrOf result (Failure.List LogErr.Io) → ⊥) → W.failure_count output.new ≡ W.failure_count output.old }
-    ensures once { FailedOnceAtMost (W.failure_count output.old) (W.failure_count output.new) }
+    ensures devices { PassesUnless (IsErrOf result (Failure.List LogErr.Io)) (change W.contents W.failure_count output.old output.new) }
 {
     compile_file(alloc, file, out, composition, store, output)?;
     Ok(silent(Status::Done))
@@ -532,8 +514,7 @@ fn explain_topic<W: OutputDevice>(
 ) -> Result<Served, Failure>
     ensures served { IfOk result (λ s. Serves no_files (requests.Explain topic) unused (change W.contents W.failure_count output.old output.new) s) }
     ensures refused { IfErr result (λ e. Fails no_files (requests.Explain topic) unused (change W.contents W.failure_count output.old output.new) e) }
-    ensures passed { (IsErrOf result (Failure.List LogErr.Io) → ⊥) → W.failure_count output.new ≡ W.failure_count output.old }
-    ensures once { FailedOnceAtMost (W.failure_count output.old) (W.failure_count output.new) }
+    ensures devices { PassesUnless (IsErrOf result (Failure.List LogErr.Io)) (change W.contents W.failure_count output.old output.new) }
 {
     explain(alloc, topic, output)?;
     Ok(silent(Status::Done))
@@ -543,8 +524,7 @@ fn explain_topic<W: OutputDevice>(
 fn library<W: OutputDevice>(output: &mut W) -> Result<Served, Failure>
     ensures served { IfOk result (λ s. Serves no_files requests.Library unused (change W.contents W.failure_count output.old output.new) s) }
     ensures refused { IfErr result (λ e. Fails no_files requests.Library unused (change W.contents W.failure_count output.old output.new) e) }
-    ensures passed { (IsErrOf result (Failure.List LogErr.Io) → ⊥) → W.failure_count output.new ≡ W.failure_count output.old }
-    ensures once { FailedOnceAtMost (W.failure_count output.old) (W.failure_count output.new) }
+    ensures devices { PassesUnless (IsErrOf result (Failure.List LogErr.Io)) (change W.contents W.failure_count output.old output.new) }
 {
     write_library(output)?;
     Ok(silent(Status::Done))

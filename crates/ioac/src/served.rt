@@ -1,9 +1,8 @@
 //! What is told of a request that was served, on standard error.
 
 ghost use Rattle.std.specs.Prelude.{◌≡◌};
-ghost use Rattle.ioa_device.specs.Failing.{FailedOnceAtMost};
+ghost use Rattle.ioa_device.specs.Devices.{PassesUnless, change};
 ghost use Rattle.ioac.specs.Commands.{IsFinished};
-ghost use Rattle.ioa_serving.specs.Devices.{change};
 ghost use Rattle.ioa_serving.specs.Serving.{reports_of, wants_of};
 ghost use Rattle.ioa_serving.specs.declared.status.Status.TheVariants as statuses;
 
@@ -15,8 +14,7 @@ use ioa_serving::{Ran, Served, Status};
 pub fn finish<E: OutputDevice>(served: &Served, ran: &Option<Ran>, errors: &mut E) -> Status
     ensures finishes { IsFinished (reports_of served.now) (wants_of ran.now) served.now.status
         (change E.contents E.failure_count errors.old errors.new) result }
-    ensures passed { (result ≡ statuses.Unable → ⊥) → E.failure_count errors.new ≡ E.failure_count errors.old }
-    ensures once { FailedOnceAtMost (E.failure_count errors.old) (E.failure_count errors.new) }
+    ensures devices { PassesUnless (result ≡ statuses.Unable) (change E.contents E.failure_count errors.old errors.new) }
 {
     match &served.reports {
         Some(text) => put_with_wants(text.as_str(), ran, served.status, errors),

@@ -3,8 +3,8 @@
 ghost use Rattle.std.specs.Prelude.{◌≡◌, ◌≢◌, ◌≤◌, ◌++◌, ◌∷◌, [], IfOk};
 ghost use Rattle.std.specs.IoError.{error_kind};
 ghost use Rattle.std.specs.String.{string_bytes};
+ghost use Rattle.ioa_device.specs.Devices.{PassesUnless, change};
 ghost use Rattle.ioa_device.specs.Failing.{FailedOnceAtMost};
-ghost use Rattle.ioa_serving.specs.Devices.{change};
 ghost use Rattle.ioa_serving.specs.Printed.{failure_text};
 ghost use Rattle.ioa_serving.specs.Serving.{wants_of};
 ghost use Rattle.ioac.specs.Telling.{IsPut, IsReported, IsShort, unreadable_text};
@@ -19,8 +19,7 @@ use std::io::ErrorKind;
 /// Writes a text on standard error, and answers this exit status, or that of `Unable` where the device failed.
 pub fn put<E: OutputDevice>(text: &str, wanted: Status, errors: &mut E) -> Status
     ensures puts { IsPut text.now wanted (change E.contents E.failure_count errors.old errors.new) result }
-    ensures passed { (result ≡ statuses.Unable → ⊥) → E.failure_count errors.new ≡ E.failure_count errors.old }
-    ensures once { FailedOnceAtMost (E.failure_count errors.old) (E.failure_count errors.new) }
+    ensures devices { PassesUnless (result ≡ statuses.Unable) (change E.contents E.failure_count errors.old errors.new) }
     ensures counts { E.failure_count errors.old ≤ E.failure_count errors.new }
 {
     match send_all(errors, text.as_bytes()) {
@@ -32,8 +31,7 @@ pub fn put<E: OutputDevice>(text: &str, wanted: Status, errors: &mut E) -> Statu
 /// Tells that a growth of memory was refused, which wants none, and answers the exit status.
 pub fn put_short<E: OutputDevice>(errors: &mut E) -> Status
     ensures short { IsShort (change E.contents E.failure_count errors.old errors.new) result }
-    ensures passed { (result ≡ statuses.Unable → ⊥) → E.failure_count errors.new ≡ E.failure_count errors.old }
-    ensures once { FailedOnceAtMost (E.failure_count errors.old) (E.failure_count errors.new) }
+    ensures devices { PassesUnless (result ≡ statuses.Unable) (change E.contents E.failure_count errors.old errors.new) }
 {
     put("memory\n", Status::Unable, errors)
 }
@@ -47,8 +45,7 @@ pub fn put_with_wants<E: OutputDevice>(
     errors: &mut E,
 ) -> Status
     ensures puts { IsPut (text.now ++ wants_of ran.now) wanted (change E.contents E.failure_count errors.old errors.new) result }
-    ensures passed { (result ≡ statuses.Unable → ⊥) → E.failure_count errors.new ≡ E.failure_count errors.old }
-    ensures once { FailedOnceAtMost (E.failure_count errors.old) (E.failure_count errors.new) }
+    ensures devices { PassesUnless (result ≡ statuses.Unable) (change E.contents E.failure_count errors.old errors.new) }
 {
     match send_all(errors, text.as_bytes()) {
         Ok(()) => put_wants(ran, wanted, errors),
@@ -60,8 +57,7 @@ pub fn put_with_wants<E: OutputDevice>(
 pub fn put_wants<E: OutputDevice>(ran: &Option<Ran>, wanted: Status, errors: &mut E) -> Status
     ensures puts { IsPut (wants_of ran.now) wanted (change E.contents E.failure_count errors.old errors.new) result }
     ensures quiet { wants_of ran.now ≡ [] → (result ≡ wanted) × (errors.new ≡ errors.old) }
-    ensures passed { (result ≡ statuses.Unable → ⊥) → E.failure_count errors.new ≡ E.failure_count errors.old }
-    ensures once { FailedOnceAtMost (E.failure_count errors.old) (E.failure_count errors.new) }
+    ensures devices { PassesUnless (result ≡ statuses.Unable) (change E.contents E.failure_count errors.old errors.new) }
 {
     let Some(ran) = ran else {
         return wanted;
@@ -80,8 +76,7 @@ pub fn reported<E: OutputDevice>(
     errors: &mut E,
 ) -> Status
     ensures reports { IsReported failure.now (wants_of ran.now) (change E.contents E.failure_count errors.old errors.new) result }
-    ensures passed { (result ≡ statuses.Unable → ⊥) → E.failure_count errors.new ≡ E.failure_count errors.old }
-    ensures once { FailedOnceAtMost (E.failure_count errors.old) (E.failure_count errors.new) }
+    ensures devices { PassesUnless (result ≡ statuses.Unable) (change E.contents E.failure_count errors.old errors.new) }
 {
     match failure_line(alloc, failure) {
         Ok(line) => put_with_wants(line.as_str(), ran, failure.status(), errors),

@@ -4,11 +4,10 @@ ghost use Rattle.std.specs.Prelude.{◌≡◌, ◌<◌, length, IfOk};
 ghost use Rattle.std.specs.Option.{option_copied};
 ghost use Rattle.std.specs.String.{string_bytes};
 ghost use Rattle.clap.specs.Words.{found_of, kind_of, rows_of, subcommand_rows_of};
-ghost use Rattle.ioa_device.specs.Failing.{FailedOnceAtMost};
+ghost use Rattle.ioa_device.specs.Devices.{BothPassUnless, PassesUnless, change};
 ghost use Rattle.ioac.specs.Commands.{IsShown, IsUsage, usage_status};
 ghost use Rattle.ioac.specs.Telling as telling;
 ghost use Rattle.ioac.specs.Telling.{IsTold};
-ghost use Rattle.ioa_serving.specs.Devices.{change};
 ghost use Rattle.ioa_serving.specs.declared.status.Status.TheVariants as statuses;
 
 use crate::telling::{put, put_short, reported};
@@ -32,8 +31,7 @@ pub fn told<W: OutputDevice, E: OutputDevice>(
     ensures usage { IsUsage (usage_status (kind_of error.now))
         (change W.contents W.failure_count output.old output.new)
         (change E.contents E.failure_count errors.old errors.new) result }
-    ensures passed { (result ≡ statuses.Unable → ⊥) → (W.failure_count output.new ≡ W.failure_count output.old) × (E.failure_count errors.new ≡ E.failure_count errors.old) }
-    ensures once { FailedOnceAtMost (W.failure_count output.old) (W.failure_count output.new) × FailedOnceAtMost (E.failure_count errors.old) (E.failure_count errors.new) }
+    ensures devices { BothPassUnless (result ≡ statuses.Unable) (change W.contents W.failure_count output.old output.new) (change E.contents E.failure_count errors.old errors.new) }
 {
     if error.kind() == ErrorKind::OutOfMemory {
         return put_short(errors);
@@ -67,8 +65,7 @@ fn shown<W: OutputDevice, E: OutputDevice>(
     ensures shows { IsShown text.now
         (change W.contents W.failure_count output.old output.new)
         (change E.contents E.failure_count errors.old errors.new) result }
-    ensures passed { (result ≡ statuses.Unable → ⊥) → (W.failure_count output.new ≡ W.failure_count output.old) × (E.failure_count errors.new ≡ E.failure_count errors.old) }
-    ensures once { FailedOnceAtMost (W.failure_count output.old) (W.failure_count output.new) × FailedOnceAtMost (E.failure_count errors.old) (E.failure_count errors.new) }
+    ensures devices { BothPassUnless (result ≡ statuses.Unable) (change W.contents W.failure_count output.old output.new) (change E.contents E.failure_count errors.old errors.new) }
 {
     match send_all(output, text.as_bytes()) {
         Ok(()) => Status::Done,
@@ -86,8 +83,7 @@ pub fn told_unasked<E: OutputDevice>(
 ) -> Status
     ensures tells { IsTold (telling.unasked_text (subcommand_rows_of matches.now)) statuses.BadCommandLine
         (change E.contents E.failure_count errors.old errors.new) result }
-    ensures passed { (result ≡ statuses.Unable → ⊥) → E.failure_count errors.new ≡ E.failure_count errors.old }
-    ensures once { FailedOnceAtMost (E.failure_count errors.old) (E.failure_count errors.new) }
+    ensures devices { PassesUnless (result ≡ statuses.Unable) (change E.contents E.failure_count errors.old errors.new) }
 {
     match unasked_text(alloc, matches) {
         Ok(text) => put(text.as_str(), Status::BadCommandLine, errors),

@@ -8,6 +8,7 @@ use Rattle.ioa_compile.specs.Subjects.{of_table}
 use Rattle.ioa_system.specs.Outcomes.{ending_of}
 use Rattle.ioa_device.specs.declared.failure.LogErr.{LogErr}
 use Rattle.ioa_device.specs.LineReading.{rest, to_come}
+use Rattle.ioa_device.proofs.Devices.{handed_on}
 use Rattle.ioa_device.proofs.LineReading.{line_came, line_taken, none_came, nothing_taken, of_all, of_line, of_more, of_stop, some_came}
 use Rattle.ioa_inspect.specs.LogMonitorings.{HasMonitored}
 use Rattle.ioa_inspect.specs.LogMonitors.{IsNoText, MonitorsLog}
@@ -56,11 +57,11 @@ returns-in_err-advance-clause-refused g c =
     (text_longer c.args.program.now k.0 c.loop-turn.monitor k.1 (sym c.is_over.ensures ∙ longer.0))))
     (λ bytes r. no_text_as c.args.program.now s runs bytes error r))
 
-pub returns-in_err-advance-clause-passed : goal.returns-in_err-advance-clause-passed
-returns-in_err-advance-clause-passed g c = λ other.
-    let error : LogErr = c.in_err-advance.field-0.0 in
+pub returns-in_err-advance-clause-devices : goal.returns-in_err-advance-clause-devices
+returns-in_err-advance-clause-devices g c =
     let same = err_from_is_err_and c.from_residual-in_err-advance.result c.from_residual-in_err-advance.ensures.1 in
-    c.in_err-advance.ensures.passed (λ e. let io : error ≡ LogErr.Io = cc in other (same.1 ∙ ap Err (same.2 ∙ io))) ∙ c.loop-turn.invariant.passed
+    handed_on g.R.Read.remaining g.R.Device.failure_count c.args.input.now c.loop-turn.input c.advance.new.input c.in_err-advance.field-0.0 same.0 LogErr.Io c.from_residual-in_err-advance.result
+    same.1 same.2 c.loop-turn.invariant.passed c.in_err-advance.ensures.devices
 
 pub take_line-requires-clause-going : goal.take_line-requires-clause-going
 take_line-requires-clause-going g c = sym c.is_over.ensures ∙ c.in_ok-advance.ensures.going (ap Ok c.if-not-branch.false)
@@ -96,7 +97,7 @@ loop-turn-preserved g c =
       within = c.in_ok-advance.ensures.within;
       over = c.in_ok-advance.ensures.over;
       counted = c.in_ok-advance.ensures.counted (ap Ok c.if-not-branch.false) c.loop-turn.turn c.loop-turn.invariant.counted;
-      passed = c.in_ok-advance.ensures.passed (λ e. absurd (cc)) ∙ c.loop-turn.invariant.passed;
+      passed = c.in_ok-advance.ensures.devices.passed (λ e. absurd (cc)) ∙ c.loop-turn.invariant.passed;
       heard = (
         k.0 ++ c.advance.new.self.line.items ∷ [],
         subst (λ (l : List ℕ). HasMonitored p (k.0 ++ l ∷ []) c.take_line.new.self) c.deref.ensures.value (c.in_ok-take_line.ensures.ok p k.0 k.1),

@@ -5,6 +5,7 @@ use Rattle.std.proofs.lemmas.Result.{err_from_is_err_and}
 use Rattle.ioa_value.specs.Lists.{IsLine}
 use Rattle.ioa_device.specs.declared.failure.LogErr.{LogErr}
 use Rattle.ioa_device.specs.LineReading.{rest, to_come}
+use Rattle.ioa_device.proofs.Devices.{handed_on}
 use Rattle.ioa_device.proofs.LineReading.{line_came, line_taken, none_came, nothing_taken}
 use Rattle.ioa_log.specs.Readings.{HasRead}
 use Rattle.ioa_log.proofs.Lines.{counts_line, list_over, list_refused, list_stopped}
@@ -28,11 +29,11 @@ returns-then-not-branch-clause-ok g c = λ s runs.
     (none_came _ (c.in_ok-advance.ensures.none (ap Ok c.if-not-branch.true))) c.in_ok-replayed.ensures)
     (λ bytes r. list_replayed_as c.args.program.now s runs bytes c.in_ok-replayed.replayed r)
 
-pub returns-in_err-advance-clause-passed : goal.returns-in_err-advance-clause-passed
-returns-in_err-advance-clause-passed g c = λ other.
-    let error : LogErr = c.in_err-advance.field-0.0 in
+pub returns-in_err-advance-clause-devices : goal.returns-in_err-advance-clause-devices
+returns-in_err-advance-clause-devices g c =
     let same = err_from_is_err_and c.from_residual-in_err-advance.result c.from_residual-in_err-advance.ensures.1 in
-    c.in_err-advance.ensures.passed (λ e. let io : error ≡ LogErr.Io = cc in other (same.1 ∙ ap Err (same.2 ∙ io))) ∙ c.loop-turn.invariant.passed
+    handed_on g.R.Read.remaining g.R.Device.failure_count c.args.input.now c.loop-turn.input c.advance.new.input c.in_err-advance.field-0.0 same.0 LogErr.Io c.from_residual-in_err-advance.result
+    same.1 same.2 c.loop-turn.invariant.passed c.in_err-advance.ensures.devices
 
 pub returns-in_err-advance-clause-only : goal.returns-in_err-advance-clause-only
 returns-in_err-advance-clause-only g c =
@@ -67,7 +68,7 @@ loop-turn-preserved g c =
       within = c.in_ok-advance.ensures.within;
       over = c.in_ok-advance.ensures.over;
       counted = c.in_ok-advance.ensures.counted (ap Ok c.if-not-branch.false) c.loop-turn.turn c.loop-turn.invariant.counted;
-      passed = c.in_ok-advance.ensures.passed (λ e. absurd (cc)) ∙ c.loop-turn.invariant.passed;
+      passed = c.in_ok-advance.ensures.devices.passed (λ e. absurd (cc)) ∙ c.loop-turn.invariant.passed;
       read = (
         k.0 ++ c.advance.new.self.line.items ∷ [],
         subst (λ (l : List ℕ). HasRead c.args.program.now (k.0 ++ l ∷ []) c.take_line.new.self) c.deref.ensures.value (c.in_ok-take_line.ensures.ok c.args.program.now k.0 k.1),

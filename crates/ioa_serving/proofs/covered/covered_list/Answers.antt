@@ -18,7 +18,7 @@ returns-in_err-replayed-clause-refused c =
     let same = ap (λ (h : AtHand). h.rest.now) c.new-at_hand.ensures in
     err_so c.from_residual.result e.0 x _ e.1 e.2
     (λ s runs. no_list c.args.program.now s runs c.args.bytes.now x c.in_err-replayed.ensures.only
-    (λ is. none_failed _ _ (ap (λ (h : AtHand). h.worn) c.new-at_hand.ensures) c.in_err-replayed.ensures.once (c.in_err-replayed.ensures.io (ap Err is)))
+    (λ is. none_failed _ _ (ap (λ (h : AtHand). h.worn) c.new-at_hand.ensures) c.in_err-replayed.ensures.devices.once (c.in_err-replayed.ensures.devices.io (ap Err is)))
     (λ n is. subst (λ (b : List ℕ). BadLine c.args.program.now.types b n) same (c.in_err-replayed.ensures.bad n (ap Err is))))
 
 pub returns-clause-ok : goal.returns-clause-ok

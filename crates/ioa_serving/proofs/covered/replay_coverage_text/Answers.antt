@@ -36,7 +36,7 @@ returns-in_err-bytes-clause-refused g c =
     let of = c.in_ok-sourced.ensures.gives in
     err_so c.from_residual-in_err-bytes.result e.0 _ _ e.1 e.2
     (unread c.args.text.now (option_copied c.args.composition) (g.R.Read.remaining c.args.input.now) _ of.0 of.1 c.args.log c.in_err-bytes.field-0.0 c.in_err-bytes.ensures.only
-    (λ h. inl (c.in_err-bytes.ensures.io (ap Err h))))
+    (λ h. inl (c.in_err-bytes.ensures.devices.io (ap Err h))))
 
 pub returns-in_err-bytes-clause-unwritten : goal.returns-in_err-bytes-clause-unwritten
 returns-in_err-bytes-clause-unwritten g c =

@@ -28,7 +28,7 @@ returns-in_err-told-clause-refused g c =
     err_so c.from_residual-in_err-told.result e.0 _ _ e.1 e.2
     (inl (
       source,
-      log_replay_refused c.args.text.now (option_copied c.args.composition) _ _ (of_hosts of.0) x (source, of.1) (λ h. inl (said.io (ap Err h))) (said.refused of.0 of.2),
+      log_replay_refused c.args.text.now (option_copied c.args.composition) _ _ (of_hosts of.0) x (source, of.1) (λ h. inl (said.devices.io (ap Err h))) (said.refused of.0 of.2),
     ))
 
 pub returns-in_err-send_all-clause-refused : goal.returns-in_err-send_all-clause-refused

@@ -30,7 +30,7 @@ returns-in_err-end-clause-refused g c =
     let x = c.in_err-end.field-0.0 in
     let of = c.in_ok-program.ensures.gives in
     err_so c.from_residual-in_err-end.result e.0 _ _ e.1 e.2
-    (log_replay_refused c.args.text.now (option_copied c.args.composition) _ _ of.0 x of.1 (λ h. c.in_err-end.ensures.io (ap Err h))
+    (log_replay_refused c.args.text.now (option_copied c.args.composition) _ _ of.0 x of.1 (λ h. c.in_err-end.ensures.devices.io (ap Err h))
     (c.in_err-end.ensures.refused of.0 of.2))
 
 pub returns-in_err-end-clause-unwritten : goal.returns-in_err-end-clause-unwritten

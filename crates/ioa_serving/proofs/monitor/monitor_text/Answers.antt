@@ -41,7 +41,7 @@ returns-in_err-answer-clause-refused g c =
     let said = c.in_err-answer.ensures in
     err_so c.from_residual-in_err-answer.result e.0 _ _ e.1 e.2
     (monitor_refused c.args.text.now (option_copied c.args.composition) _ _ of.0 x of.1 (c.hides_actions.ensures.open c.if-hides_actions.false of.0 of.2) said.only
-    (λ h. inl (said.io (ap Err h))) (said.refused of.0 of.2))
+    (λ h. inl (said.devices.io (ap Err h))) (said.refused of.0 of.2))
 
 pub returns-in_err-send_all-clause-refused : goal.returns-in_err-send_all-clause-refused
 returns-in_err-send_all-clause-refused g c =

@@ -1,10 +1,11 @@
 use Rattle.std.proofs.Common.{◌∙◌, ap, refl, subst, sym}
 use Rattle.std.specs.Option.{option_copied}
 use Rattle.std.proofs.lemmas.Result.{err_from_is_err_and}
+use Rattle.ioa_device.specs.Devices.{change}
 use Rattle.ioa_device.specs.declared.failure.LogErr.{LogErr}
 use Rattle.ioa_serving.specs.declared.failure.Failure.{Failure}
 use Rattle.ioa_serving.specs.Compiling.{IsCompiled}
-use Rattle.ioa_serving.specs.Devices.{change, files}
+use Rattle.ioa_serving.specs.Worlds.{files}
 use Rattle.ioa_serving.proofs.Made.{unmade, unsaved}
 use Rattle.ioa_serving.proofs.Refused.{err_so}
 use Rattle.ioa_serving.proofs.Kept.{keeps_same}

@@ -38,7 +38,7 @@ returns-in_err-end-clause-refused g c =
     let of = c.in_ok-program.ensures.gives in
     err_so c.from_residual-in_err-end.result e.0 _ _ e.1 e.2
     (list_failed c.args.text.now (option_copied c.args.composition) _ _ of.0 c.in_ok-program.program.types x of.1 (does_as c.in_ok-program.program of.0 of.2).types
-    c.in_err-end.ensures.only c.in_err-end.ensures.bad c.in_err-end.ensures.io)
+    c.in_err-end.ensures.only c.in_err-end.ensures.bad c.in_err-end.ensures.devices.io)
 
 pub returns-in_err-end-clause-unwritten : goal.returns-in_err-end-clause-unwritten
 returns-in_err-end-clause-unwritten g c =

@@ -32,7 +32,7 @@ returns-in_err-told-clause-refused g c =
     let e = err_from_is_err_and c.from_residual-in_err-told.result c.from_residual-in_err-told.ensures.1 in
     let of = c.in_ok-program.ensures.gives in
     err_so c.from_residual-in_err-told.result e.0 _ _ e.1 e.2
-    (log_replay_refused c.args.text.now (option_copied c.args.composition) _ _ of.0 c.in_err-told.field-0.0 of.1 (λ h. inl (c.in_err-told.ensures.io (ap Err h)))
+    (log_replay_refused c.args.text.now (option_copied c.args.composition) _ _ of.0 c.in_err-told.field-0.0 of.1 (λ h. inl (c.in_err-told.ensures.devices.io (ap Err h)))
     (c.in_err-told.ensures.refused of.0 of.2))
 
 pub returns-in_err-told-clause-unwritten : goal.returns-in_err-told-clause-unwritten

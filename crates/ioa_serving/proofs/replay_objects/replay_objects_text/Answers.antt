@@ -35,7 +35,7 @@ returns-in_err-told-clause-refused g c =
     let said = c.in_err-told.ensures in
     err_so c.from_residual-in_err-told.result e.0 _ _ e.1 e.2
     (list_failed c.args.text.now (option_copied c.args.composition) _ _ of.0 c.in_ok-program.program.types c.in_err-told.field-0.0 of.1 (does_as c.in_ok-program.program of.0 of.2).types
-    said.only said.bad (λ io. inl (said.io io)))
+    said.only said.bad (λ io. inl (said.devices.io io)))
 
 pub returns-in_err-told-clause-unwritten : goal.returns-in_err-told-clause-unwritten
 returns-in_err-told-clause-unwritten g c =

@@ -1,7 +1,7 @@
 use Rattle.std.proofs.Common.{◌∙◌, ◌⊎◌, inl, inr, refl}
 use Rattle.std.proofs.lemmas.Result.{err_from_is_err_and}
 use Rattle.ioa_device.specs.Failing.{HasFailed}
-use Rattle.ioa_serving.specs.Devices.{Files, files}
+use Rattle.ioa_serving.specs.Worlds.{Files, files}
 use Rattle.ioa_serving.proofs.Kept.{keeps_same}
 use Rattle.ioa_serving.proofs.Refused.{err_so}
 use Rattle.ioa_serving.proofs.SeedCuts.{lent_count}

@@ -47,7 +47,7 @@ returns-in_err-send_all-clause-refused g c =
     err_so c.from_residual-in_err-send_all.result e.0 _ _ e.1 (e.2 ∙ ap Failure.List c.in_err-send_all.ensures.io.0)
     (inr (cut_in_counts c.args.sown.now c.args.seeds.now (c.requires.many ∙ sym (lent_count c.args.seeds.now.monitors.now)) (g.W.Write.contents c.args.output.now) (g.W.Write.contents c.tell_runs.new.output) c.in_ok-tally.tally told.0 told.1
     (HasFailed (g.W.Device.failure_count c.args.output.now) (g.W.Device.failure_count c.send_all.new.output)) (g.W.Write.contents c.send_all.new.output)
-    (subst (λ n. HasFailed n (g.W.Device.failure_count c.send_all.new.output)) (c.in_ok-tally.ensures.passed (λ e. cc)) c.in_err-send_all.ensures.io.1)
+    (subst (λ n. HasFailed n (g.W.Device.failure_count c.send_all.new.output)) (c.in_ok-tally.ensures.devices.passed (λ e. cc)) c.in_err-send_all.ensures.io.1)
     (subst (λ (t : List ℕ). (n : ℕ) × Appends (g.W.Write.contents c.tell_runs.new.output) (g.W.Write.contents c.send_all.new.output) (take n t)) (c.as_bytes.ensures.value ∙ c.in_ok-line.ensures)
     c.in_err-send_all.ensures.begun)))
 

@@ -29,7 +29,7 @@ returns-in_err-told-clause-refused g c =
     (inl (
       source,
       list_failed c.args.text.now (option_copied c.args.composition) _ _ (of_hosts of.0) c.in_ok-composed.composed.types c.in_err-told.field-0.0 (source, of.1) of.2.types
-          said.only said.bad (λ io. inl (said.io io)),
+          said.only said.bad (λ io. inl (said.devices.io io)),
     ))
 
 pub returns-in_err-send_all-clause-refused : goal.returns-in_err-send_all-clause-refused

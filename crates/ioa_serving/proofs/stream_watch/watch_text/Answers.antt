@@ -32,7 +32,7 @@ returns-in_err-watchers-clause-refused g c =
     err_so c.from_residual-in_err-watchers.result e.0 _ _ e.1 e.2
     (cut c.args.text.now (texts c.args.compositions.now) c.args.first c.args.json (g.W.Write.contents c.args.output.now) (g.W.Write.contents c.watch.new.output) (tree_of given.checked)
     given.programs.items c.deref.result.now c.types.result.now c.in_ok-given.ensures.specified c.deref.ensures.value c.types.ensures (g.R.Read.remaining c.args.input.now) _ error said.only
-    (λ io. said.io (ap Err io)) said.refused)
+    (λ io. said.devices.io (ap Err io)) said.refused)
 
 pub returns-clause-watches : goal.returns-clause-watches
 returns-clause-watches g c =

@@ -43,7 +43,7 @@ returns-in_err-verdict-clause-refused g c =
     let said = c.in_err-verdict.ensures in
     err_so c.from_residual-in_err-verdict.result e.0 _ _ e.1 e.2
     (monitor_refused c.args.text.now (option_copied c.args.composition) _ _ of.0 x of.1 (c.hides_actions.ensures.open c.if-hides_actions.false of.0 of.2) said.only
-    (λ h. inl (said.io (ap Err h))) (IfSome_then (g.R.Read.remaining c.args.input.now) said.refused (λ xs k. subst (λ ts. IsNoText ts xs x) (does_as c.in_ok-program.program of.0 of.2).types k)))
+    (λ h. inl (said.devices.io (ap Err h))) (IfSome_then (g.R.Read.remaining c.args.input.now) said.refused (λ xs k. subst (λ ts. IsNoText ts xs x) (does_as c.in_ok-program.program of.0 of.2).types k)))
 
 pub returns-in_err-send_all-clause-refused : goal.returns-in_err-send_all-clause-refused
 returns-in_err-send_all-clause-refused g c =

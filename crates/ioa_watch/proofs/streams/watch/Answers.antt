@@ -6,7 +6,9 @@ use Rattle.std.proofs.lemmas.Result.{err_from_is_err_and}
 use Rattle.ioa_value.specs.Table.{Table}
 use Rattle.ioa_compile.specs.Programs.{Prog}
 use Rattle.ioa_device.specs.declared.failure.LogErr.{LogErr}
+use Rattle.ioa_device.specs.Devices.{change}
 use Rattle.ioa_device.specs.LineReading.{rest}
+use Rattle.ioa_device.proofs.Devices.{first_fails, handed_on}
 use Rattle.ioa_device.proofs.LineReading.{length_rest, line_taken, nothing_taken}
 use Rattle.ioa_watch.specs.Streaming.{HasCome, HaveHeard}
 use Rattle.ioa_watch.specs.Streams.{IsNoLine, IsNotJson, known_by, told}
@@ -92,13 +94,15 @@ returns-in_err-next-clause-refused g c =
     rw (same.1, same.2) (failed_behind c.args.json c.args.types.now c.args.programs.now c.args.first (g.W.Write.contents c.args.output.now) k.0 k.1 k.2.came (g.R.Read.remaining c.args.input.now) _ k.4
     (g.W.Write.contents c.loop-turn.output) error c.in_err-next.ensures.only k.5)
 
-pub returns-in_err-next-clause-passed : goal.returns-in_err-next-clause-passed
-returns-in_err-next-clause-passed g c = λ other.
-    let error : LogErr = c.in_err-next.field-0.0 in
-    let same = err_from_is_err_and c.from_residual-in_err-next.result c.from_residual-in_err-next.ensures.1 in (
-      c.in_err-next.ensures.passed (λ e. let io : error ≡ LogErr.Io = cc in other (same.1 ∙ ap Err (same.2 ∙ io))) ∙ (c.in_ok-has_more.ensures.passed ∙ c.loop-turn.invariant.read),
-      c.loop-turn.invariant.wrote,
-    )
+pub returns-in_err-next-clause-devices : goal.returns-in_err-next-clause-devices
+returns-in_err-next-clause-devices g c =
+    let read = change g.R.Read.remaining g.R.Device.failure_count c.args.input.now c.next.new.input in
+    let wrote = change g.W.Write.contents g.W.Device.failure_count c.args.output.now c.loop-turn.output in
+    let same = err_from_is_err_and c.from_residual-in_err-next.result c.from_residual-in_err-next.ensures.1 in
+    first_fails _ read wrote
+    (handed_on g.R.Read.remaining g.R.Device.failure_count c.args.input.now c.has_more.new.input c.next.new.input c.in_err-next.field-0.0 same.0 LogErr.Io c.from_residual-in_err-next.result
+    same.1 same.2 (omega (arith, c.in_ok-has_more.ensures.devices.passed (λ e. absurd (cc)), c.loop-turn.invariant.read)) c.in_err-next.ensures.devices)
+    c.loop-turn.invariant.wrote
 
 pub take_line-requires : goal.take_line-requires
 take_line-requires g c =
@@ -152,7 +156,7 @@ loop-turn-preserved g c =
     record {
       within = c.in_ok-next.ensures.within;
       over = c.in_ok-next.ensures.over;
-      read = c.in_ok-next.ensures.passed (λ e. absurd (cc)) ∙ (c.in_ok-has_more.ensures.passed ∙ c.loop-turn.invariant.read);
+      read = c.in_ok-next.ensures.devices.passed (λ e. absurd (cc)) ∙ (c.in_ok-has_more.ensures.devices.passed (λ e. absurd (cc)) ∙ c.loop-turn.invariant.read);
       wrote = c.in_ok-send_all.ensures.passed ∙ c.loop-turn.invariant.wrote;
       counted =
           let room : c.has_more.new.self.start < c.has_more.new.self.end = c.in_ok-has_more.ensures.room (ap Ok c.if-not-branch.false) in

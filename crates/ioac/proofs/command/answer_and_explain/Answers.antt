@@ -1,7 +1,7 @@
-use Rattle.std.proofs.Common.{ℕ, List, ap, arith, inl, inr, refl, subst, sym, string_bytes, ◌∙◌}
+use Rattle.std.proofs.Common.{◌≡◌, ℕ, List, ap, arith, inl, inr, refl, subst, sym, string_bytes, ◌∙◌}
+use Rattle.ioa_device.specs.Devices.{Passed, change, onward, seen, until}
 use Rattle.ioa_serving.specs.declared.failure.Failure.{Failure}
 use Rattle.ioa_serving.specs.declared.served.Served.{Served}
-use Rattle.ioa_serving.specs.Devices.{Passed, change, seen, onward, until}
 use Rattle.ioac.specs.Commands.{IsFollowed, IsServedRemark, IsUnservedRemark}
 use Rattle.ioac.specs.Telling.{IsPut}
 use Rattle.ioa_causes.proofs.Found.{if_ok}
@@ -52,11 +52,27 @@ returns-clause-answers g c =
           (if_err (λ (e : Failure). unserved e text) (λ (e : Failure). goes_on (unserved e)) _ (λ e says. inl (passed, (text, says, puts))) c.remarks_or_none-text.ensures.unserved),
     )
 
-pub returns-clause-passed : goal.returns-clause-passed
-returns-clause-passed g c = λ whole.
+pub returns-then-failures-clause-devices : goal.returns-then-failures-clause-devices
+returns-then-failures-clause-devices g c =
+    let served = c.serve_and_tell-served.ensures.devices in
+    let heard = ap g.R.Device.failure_count c.keep_heard.ensures in
+    record {
+      passed = λ whole. let so = served.passed whole in (so.0 ∙ heard, so.1, so.2);
+      once = (omega (arith, served.once.0, heard), served.once.1, served.once.2);
+    }
+
+pub returns-clause-devices : goal.returns-clause-devices
+returns-clause-devices g c =
     let more = change g.E.Write.contents g.E.Device.failure_count c.serve_and_tell-served.new.errors c.put.new.errors in
-    let so = c.serve_and_tell-served.ensures.passed (told_through _ _ more _ c.put.ensures.puts whole) in
-    (so.0 ∙ ap g.R.Device.failure_count c.keep_heard.ensures, so.1, c.put.ensures.passed whole ∙ so.2)
+    let served = c.serve_and_tell-served.ensures.devices in
+    let heard = ap g.R.Device.failure_count c.keep_heard.ensures in
+    let told : g.E.Device.failure_count c.serve_and_tell-served.new.errors ≡ g.E.Device.failure_count c.args.errors.now = sym c.failures.ensures ∙ c.if-failures.false ∙ c.failures-failures.ensures in
+    record {
+      passed = λ whole.
+          let so = served.passed (told_through _ _ more _ c.put.ensures.puts whole) in
+          (so.0 ∙ heard, so.1, c.put.ensures.devices.passed whole ∙ so.2);
+      once = (omega (arith, served.once.0, heard), served.once.1, omega (arith, c.put.ensures.devices.once, told));
+    }
 
 pub returns-clause-unread : goal.returns-clause-unread
 returns-clause-unread g c = λ none. ap (λ h. h.inner) (c.serve_and_tell-served.ensures.unread none) ∙ c.keep_heard.ensures

@@ -1,6 +1,7 @@
-use Rattle.std.proofs.Common.{[], Some, inl, inr, subst, sym, ◌∙◌}
+use Rattle.std.proofs.Common.{[], Some, inl, inr, subst, sym, arith, ◌∙◌}
+use Rattle.ioa_device.specs.Devices.{change}
 use Rattle.ioa_serving.specs.declared.failure.Failure.{Failure}
-use Rattle.ioa_serving.specs.Devices.{Failed, change, files, world}
+use Rattle.ioa_serving.specs.Worlds.{files, world}
 use Rattle.ioa_serving.proofs.Kept.{keeps_same}
 use Rattle.ioac.specs.Commands.{IsAnsweredAs, IsTakingErr}
 use Rattle.ioac.proofs.Reported.{reported_status}
@@ -13,7 +14,7 @@ returns-in-Ok-clause-answers g c =
     let errors = change g.E.Write.contents g.E.Device.failure_count c.args.errors.now c.answer_as.new.errors in
     let store = files g.F.Store.holds g.F.Store.lacks g.F.Store.begins g.F.Store.bars g.F.Store.saves c.args.store.now c.answer_as.new.store in
     let text = c.in-Ok.text.items in
-    let same = held text c.as_slice.result c.new-taken.result.inner c.answer_as.new.input.inner (c.new-taken.ensures.inner ∙ c.new.ensures) c.as_slice.ensures.value c.answer_as.ensures.once.0 in
+    let same = held text c.as_slice.result c.new-taken.result.inner c.answer_as.new.input.inner (c.new-taken.ensures.inner ∙ c.new.ensures) c.as_slice.ensures.value c.answer_as.ensures.devices.once.0 in
     inl (
       text,
       c.in-Ok.ensures.ok,
@@ -23,23 +24,29 @@ returns-in-Ok-clause-answers g c =
       ),
     )
 
-pub returns-in-Ok-clause-passed : goal.returns-in-Ok-clause-passed
-returns-in-Ok-clause-passed g c = λ whole.
-    let so = c.answer_as.ensures.passed whole in
-    (c.in-Ok.ensures.passed (λ e. absurd (cc)), so.1, so.2)
+pub returns-in-Ok-clause-devices : goal.returns-in-Ok-clause-devices
+returns-in-Ok-clause-devices g c =
+    let answered = c.answer_as.ensures.devices in
+    record {
+      passed = λ whole. let so = answered.passed whole in (c.in-Ok.ensures.devices.passed (λ e. absurd (cc)), so.1, so.2);
+      once = (c.in-Ok.ensures.devices.once, answered.once.1, answered.once.2);
+    }
 
 pub returns-in-Err-clause-answers : goal.returns-in-Err-clause-answers
 returns-in-Err-clause-answers g c =
     inr (
       keeps_same (g.W.Write.contents c.args.output.now),
-      (c.in-Err.error, taking _ c.in-Err.error c.in-Err.ensures.only c.in-Err.ensures.io, c.reported.ensures.reports),
+      (c.in-Err.error, taking _ c.in-Err.error c.in-Err.ensures.only c.in-Err.ensures.devices.io, c.reported.ensures.reports),
     )
 
-pub returns-in-Err-clause-passed : goal.returns-in-Err-clause-passed
-returns-in-Err-clause-passed g c = λ whole.
+pub returns-in-Err-clause-devices : goal.returns-in-Err-clause-devices
+returns-in-Err-clause-devices g c =
     let failure : Failure = Failure.List c.in-Err.error in
     let errors = change g.E.Write.contents g.E.Device.failure_count c.args.errors.now c.reported.new.errors in
-    absurd (whole (
-    reported_status failure [] errors c.reported.result c.reported.ensures.reports whole
-    ∙ untaken_status _ c.in-Err.error (taking _ c.in-Err.error c.in-Err.ensures.only c.in-Err.ensures.io)
-    ))
+    record {
+      passed = λ whole. absurd (whole (
+          reported_status failure [] errors c.reported.result c.reported.ensures.reports whole
+          ∙ untaken_status _ c.in-Err.error (taking _ c.in-Err.error c.in-Err.ensures.only c.in-Err.ensures.devices.io)
+          ));
+      once = (c.in-Err.ensures.devices.once, omega arith, c.reported.ensures.devices.once);
+    }

@@ -1,9 +1,10 @@
 use Rattle.std.proofs.Common.{ap, inl, inr, subst, ◌∙◌}
 use Rattle.clap.specs.Words.{subcommand_of, subcommand_rows_of}
+use Rattle.ioa_device.specs.Devices.{change}
 use Rattle.ioa_request.specs.declared.request.Request.{Request}
 use Rattle.ioa_request.specs.CommandLine.{IsAskedBy, ioac_app, is_explained}
 use Rattle.ioa_request.specs.Cuts.{cut_of}
-use Rattle.ioa_serving.specs.Devices.{change, files, world}
+use Rattle.ioa_serving.specs.Worlds.{files, world}
 use Rattle.ioa_serving.proofs.Kept.{keeps_same}
 use Rattle.ioac.specs.Commands.{IsAnsweredOf}
 use Rattle.ioac.proofs.Taken.{uncut}

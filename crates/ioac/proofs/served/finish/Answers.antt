@@ -1,6 +1,6 @@
 use Rattle.std.proofs.Common.{sym, subst}
 use Rattle.std.specs.Io.KnownBytes.{Keeps}
-use Rattle.ioa_serving.specs.Devices.{change}
+use Rattle.ioa_device.specs.Devices.{change}
 use Rattle.ioa_serving.proofs.Kept.{keeps_same}
 use Rattle.ioac.proofs.Wants.{finished_none}
 use Rattle.ioac.proofs.served.finish.Goals as goal

@@ -1,5 +1,5 @@
 use Rattle.std.proofs.Common.{sym}
-use Rattle.ioa_serving.specs.Devices.{change, seen}
+use Rattle.ioa_device.specs.Devices.{change, seen}
 use Rattle.ioac.proofs.Wants.{put_cut, put_on}
 use Rattle.ioac.proofs.telling.put_with_wants.Goals as goal
 

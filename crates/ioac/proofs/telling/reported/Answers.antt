@@ -1,5 +1,5 @@
 use Rattle.std.proofs.Common.{◌∙◌}
-use Rattle.ioa_serving.specs.Devices.{change}
+use Rattle.ioa_device.specs.Devices.{change}
 use Rattle.ioa_serving.specs.Serving.{wants_of}
 use Rattle.ioac.proofs.Wants.{reported_with}
 use Rattle.ioac.proofs.telling.reported.Goals as goal

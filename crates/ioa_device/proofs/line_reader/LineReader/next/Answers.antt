@@ -72,7 +72,7 @@ loop-turn-preserved g c =
     record {
       within = c.in_ok-has_more.ensures.within;
       over = c.in_ok-has_more.ensures.over;
-      passed = c.in_ok-has_more.ensures.passed ∙ c.loop-turn.invariant.passed;
+      passed = c.in_ok-has_more.ensures.devices.passed (λ e. absurd (cc)) ∙ c.loop-turn.invariant.passed;
       turns = further c.loop-turn.turn (g.R.InputDevice.given_count c.loop-turn.input) (g.R.InputDevice.given_count c.has_more.new.input) (2 ^ 64 - 1) (length (rest c.has_more.new.self))
           _ c.loop-turn.invariant.turns (omega arith) (omega (arith, long, room)) (ap length none) c.in_ok-has_more.ensures.counted;
       counted = λ n h. counted_on n (length r.line.items) (length (rest r)) _ (length (rest c.has_more.new.self)) (2 ^ 64 - 1) _ _ _ all (ap length none) (c.loop-turn.invariant.counted n h) c.in_ok-has_more.ensures.counted;

@@ -1,54 +1,8 @@
--- What a call does to its devices and files, by what they show before it and after it. Of a device that is the bytes that it holds, or has left to give, where they
--- are known, and how many of its calls failed so far.
-use Rattle.std.specs.Prelude.{◌≡◌, ℕ, List, Option, None}
-use Rattle.std.specs.Io.KnownBytes.{Appends, Keeps}
-use Rattle.ioa_device.specs.Failing.{HasFailed}
+-- What a call does to its files and its devices: the files by the store's own words, the devices by what they show before it and after it.
+use Rattle.std.specs.Prelude.{◌≡◌, ℕ, List, Option}
 use Rattle.ioa_value.specs.Actions.{Name}
+use Rattle.ioa_device.specs.Devices.{Change}
 use Rattle.ioa_serving.specs.Placing.{Blocks, Places, Yields}
-
--- what a device shows
-pub record Seen : Type 0 where
-  pub bytes : Option (List ℕ)
-  pub failures : ℕ
-
--- and what it shows before a call and after it
-pub record Change : Type 0 where
-  pub before : Seen
-  pub after : Seen
-
--- of a device, by what tells its bytes and its failures
-abbrev pub seen : {D : Type 0} → (D → Option (List ℕ)) → (D → ℕ) → D → Seen
-seen bytes failures device = record { bytes = bytes device; failures = failures device }
-
-abbrev pub change : {D : Type 0} → (D → Option (List ℕ)) → (D → ℕ) → D → D → Change
-change bytes failures old new = record { before = seen bytes failures old; after = seen bytes failures new }
-
--- of a call that does not come to a device
-abbrev pub unused : Change
-unused = record { before = record { bytes = None; failures = 0 }; after = record { bytes = None; failures = 0 } }
-
--- up to what it shows in between, and from there on
-abbrev pub until : Change → Seen → Change
-until c between = record { before = c.before; after = between }
-
-abbrev pub onward : Change → Seen → Change
-onward c between = record { before = between; after = c.after }
-
--- its count of failures is what it was
-abbrev pub Passed : Change → Type 0
-Passed c = c.after.failures ≡ c.before.failures
-
--- a call of it failed
-abbrev pub Failed : Change → Type 0
-Failed c = HasFailed c.before.failures c.after.failures
-
--- it took these bytes, and no others
-abbrev pub Wrote : Change → List ℕ → Type 0
-Wrote c text = Appends c.before.bytes c.after.bytes text
-
--- it took none
-abbrev pub Untouched : Change → Type 0
-Untouched c = Keeps c.before.bytes c.after.bytes
 
 -- what the files are to a call: what a load before it may give, and where it may fail; where bytes that begin with a mark may not be put, and where what stands
 -- gives way to them; what was put where; whether all files are as they were; and what a load after it may give, and where it may fail
