@@ -28,9 +28,9 @@ use Rattle.ioa_clash.proofs.index.Index.TheSendSync as index
 use Rattle.ioa_code.specs.contracts.instr.Code as Code
 use Rattle.ioa_code.specs.contracts.instr.Instr as Instr
 use Rattle.ioa_code.specs.contracts.verified.Verified as Verified
-use Rattle.ioa_steps.specs.contracts.step.Step as Step
+use Rattle.ioa_steps.specs.contracts.fused.Stride as Stride
 use Rattle.ioa_steps.specs.contracts.trimmed.Trimmed as Trimmed
-use Rattle.ioa_steps.proofs.step.Step.TheSendSync as steps
+use Rattle.ioa_steps.proofs.fused.Stride.TheSendSync as strides
 use Rattle.ioa_steps.proofs.trimmed.Trimmed.TheSendSync as trimmed
 use Rattle.ioa_node.specs.contracts.decoded.Decoded as Decoded
 use Rattle.ioa_node.specs.contracts.state.NodeState as NodeState
@@ -91,14 +91,14 @@ code_sync = search (instr_sync, value_sync, crosses, sendable) depth 20
 verified_sync : IsSync Verified.the_row
 verified_sync = search (code_sync, types_sync, crosses, sendable) depth 20
 
-step_sync : IsSync (Step.the_field).row
-step_sync = steps.the_field_sync
+stride_sync : IsSync (Stride.the_field).row
+stride_sync = strides.the_field_sync
 
 trimmed_sync : IsSync Trimmed.the_row
 trimmed_sync = trimmed.the_sync
 
 decoded_sync : IsSync Decoded.the_row
-decoded_sync = search (verified_sync, step_sync, trimmed_sync, crosses, sendable) depth 20
+decoded_sync = search (verified_sync, stride_sync, trimmed_sync, crosses, sendable) depth 20
 
 state_send : IsSend NodeState.the_row
 state_send = states.the_send
