@@ -18,3 +18,4 @@ mod schedules;
 mod threads;
 mod tokens;
 mod watched;
+mod words;
