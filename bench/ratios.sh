@@ -44,6 +44,27 @@ crowd() {
     print "composition One components A: A" count - 1
   }'
 }
+# So many actions on a queue of 256 pairs, which is full from the 256th on.
+queue() {
+  cat << 'END'
+type Pair = tuple { a: Int, b: Bool }
+type Pairs = seq 256 of Pair
+automaton Queue signature input put(p: Pair); output take(p: Pair)
+states q: Pairs
+transitions
+  input put eff if len(q) < 256 then q := append(q, p) fi
+  output take pre len(q) > 0 /\ p = head(q) propose p := head(q) eff q := tail(q)
+composition One components A: Queue
+END
+}
+pairs() {
+  awk -v n="$1" 'BEGIN {
+    for (i = 0; i < n; i++) {
+      if (i < 256 || i % 2) print "put(Pair(" i ", " (i % 3 ? "true" : "false") "))"
+      else { k = (i - 256) / 2; k = k < 256 ? k : 2 * k - 255; print "take(Pair(" k ", " (k % 3 ? "true" : "false") "))" }
+    }
+  }'
+}
 bytes() { wc -c < "$work/$1"; }
 log() { awk -v n="$1" 'BEGIN { for (i = 0; i < n; i++) print "{\"act\":\"tick(" 5 + i ")\",\"who\":0}"; print "{\"end\":\"done after " n "\"}" }'; }
 # measured COMMAND..: runs the program with these words on the file `input`, and prints the seconds of a processor, of the best of three runs, and the
@@ -93,6 +114,9 @@ source_of 107000 > "$work/small.ioa"
 source_of 1048000 > "$work/large.ioa"
 crowd 25 > "$work/few.ioa"
 crowd 255 > "$work/many.ioa"
+queue > "$work/queue.ioa"
+pairs 40000 > "$work/small.pairs"
+pairs 400000 > "$work/large.pairs"
 printf 'go(1)\n' > "$work/one.list"
 printf 'e63\n' > "$work/last.list"
 
@@ -105,6 +129,9 @@ awk -v s="$small" -v l="$large" 'BEGIN { printf "log of 100000: %.3f s; of 10000
 small=$(seconds bounded.ioa small.log "--log --invariants")
 large=$(seconds bounded.ioa large.log "--log --invariants")
 awk -v s="$small" -v l="$large" 'BEGIN { printf "log of 100000 with an invariant: %.3f s; of 1000000: %.3f s; ratio %.1f; %d states a second\n", s, l, l / s, 1000001 / l }'
+small=$(seconds queue.ioa small.pairs)
+large=$(seconds queue.ioa large.pairs)
+awk -v s="$small" -v l="$large" 'BEGIN { printf "full queue of 256 pairs, list of 40000: %.3f s; of 400000: %.3f s; ratio %.1f; %d actions a second\n", s, l, l / s, 400000 / l }'
 small=$(seconds small.ioa one.list)
 large=$(seconds large.ioa one.list)
 awk -v s="$small" -v l="$large" -v a="$(bytes small.ioa)" -v b="$(bytes large.ioa)" 'BEGIN { printf "source of %d bytes: %.3f s; of %d: %.3f s; ratio %.1f\n", a, s, b, l, l / s }'
