@@ -20,6 +20,7 @@ pub struct Counted<T> {
 }
 
 impl<T> Counted<T> {
+    /// This reader or writer, of which no call failed, and which gave no byte.
     pub fn new(inner: T) -> Counted<T>
         ensures { result ≡ record { inner = inner; failures = 0; given = 0 } }
     {
@@ -30,6 +31,7 @@ impl<T> Counted<T> {
         }
     }
 
+    /// The reader or writer itself, without its counts.
     pub fn into_inner(self) -> T
         ensures { result ≡ self.inner }
     {

@@ -25,7 +25,7 @@ pub trait Device {
 pub trait InputDevice: Read + Device {
     ghost given_count: { Self → ℕ };
 
-    /// One read.
+    /// One read: how many bytes it put in front of the piece, or `Failed`, which is counted.
     fn pull(&mut self, piece: &mut [u8]) -> Result<usize, Failed>
         ensures bound { ReadsAtMost result piece.new }
         ensures bytes { ReadConsumes (Self.remaining self.old) (Self.remaining self.new) result piece.new }
@@ -46,7 +46,7 @@ pub trait InputDevice: Read + Device {
 
 /// A writer whose failures are counted, a write that takes nothing of a piece among them.
 pub trait OutputDevice: Write + Device {
-    /// One write.
+    /// One write: how many bytes of the piece it took, or `Failed`, which is counted, also where it takes none of some.
     fn push(&mut self, piece: &[u8]) -> Result<usize, Failed>
         ensures bound { WritesAtMost result piece.now }
         ensures some { TakesSome result piece.now }

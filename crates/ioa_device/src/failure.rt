@@ -11,7 +11,7 @@ pub enum LogErr {
     /// This line of a log is the first that is no entry's, and it is no JSON text.
     #[error("line {0} is no JSON")]
     NotJson(u64),
-    /// This line is the first of a list that is neither skipped nor the text of an action, or of a log that is neither an
+    /// This line is the first of a list that is neither skipped nor the text of an action, or of a log that is a JSON text, but neither an
     /// entry nor the end. Nothing was written.
     #[error("line {0} is no action")]
     BadEntry(u64),

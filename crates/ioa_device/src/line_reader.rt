@@ -53,7 +53,7 @@ impl LineReader {
         })
     }
 
-    /// Whether a byte is to come.
+    /// Whether a byte is to come; `Io` where the reader fails.
     pub fn has_more<R: InputDevice>(&mut self, input: &mut R) -> Result<bool, LogErr>
         requires within { IsWithin self.old }
         requires over { IsOver (R.remaining input.old) self.old }
@@ -84,7 +84,7 @@ impl LineReader {
         }
     }
 
-    /// Takes the bytes up to the next LF, or to the text's end.
+    /// Takes the bytes up to the next LF, or to the text's end. After `Io` and `OutOfMemory` it is not asked again: what came of the line is lost.
     pub fn next<R: InputDevice>(&mut self, input: &mut R) -> Result<(), LogErr>
         requires within { IsWithin self.old }
         requires over { IsOver (R.remaining input.old) self.old }
@@ -115,6 +115,9 @@ impl LineReader {
     }
 
     /// Takes the next line, where a byte is to come: the answer is whether one was. None may come where the text has ended.
+    ///
+    /// # Errors
+    /// Those of `next`; `AfterEnd` where a byte is to come though the text has ended.
     pub fn advance<R: InputDevice>(&mut self, input: &mut R, ended: bool) -> Result<bool, LogErr>
         requires within { IsWithin self.old }
         requires over { IsOver (R.remaining input.old) self.old }

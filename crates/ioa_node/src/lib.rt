@@ -1,6 +1,6 @@
 //! The state of a component as words, and the machine that runs decoded code on it: preconditions,
 //! effects and proposals. A `NodeState` keeps the words of its variables' values, so that equal states
-//! are equal words; a `Decoded` keeps verified code with the steps that stand for it.
+//! are equal words; a `Decoded` keeps verified code with the strides that stand for it, and the words of its constants.
 #![tactic(auto)]
 
 // States, and new words for them.
@@ -10,7 +10,7 @@ mod state;
 // Decoded code.
 mod decoded;
 
-// Its steps, run beside a state.
+// Its strides, run beside a state.
 mod drafting;
 mod reading;
 mod workspace;

@@ -32,7 +32,7 @@ use std::alloc::Global;
 ///
 /// A worker takes no more turns after a fault of its action, or where it would commit after another's; the others go on. Memory that is
 /// refused to a worker in its turn ends that worker alone, and its report says so. So of each worker all turns are counted, or fewer, since
-/// its action faulted, or another's did, or memory was refused to it. Behind a run the tallies are those of its components, in order; what stood there is gone, and may be where there is no run.
+/// its action faulted, or another's did, or memory was refused to it. Behind a run the tallies are those of its components, in order; what stood there is gone then, and may be gone where there is no run, too.
 ///
 /// It answers `TooManyTurns` where each worker would have more than 100,000 turns; then `BadInput` with the first action that is no
 /// input of the composition; and `OutOfMemory` where memory was refused before the start. It never answers `Threads`.
@@ -63,7 +63,7 @@ pub fn run_alone<W: Words + Drop>(
 /// beginning of the history, words and inputs begin anew, and the reports and the tallies tell of what is new.
 ///
 /// It answers `TooManyTurns` and `BadInput` as `run_alone` does; then `EndedByFault` where the log ends by a fault; then `BadLog` with the first
-/// of its entries that is not the program's run's, or with their number where the end has another count; and `OutOfMemory` where memory
+/// of its entries whose worker is not its action's or whose action is not performed, or with their number where the end has another count; and `OutOfMemory` where memory
 /// was refused before the start. It never answers `Threads`.
 pub fn resume_alone<W: Words + Drop>(
     alloc: Global,

@@ -36,7 +36,7 @@ use std::thread::Threads;
 /// A worker tells the gate where it is, and waits there as long as the gate holds it. It takes no more turns after a fault of its action,
 /// or where it would commit after another's; the others go on. Memory that is refused to a worker in its turn ends that worker alone, and
 /// its report says so. So of each worker all turns are counted, or fewer, since its action faulted, or another's did, or memory was refused
-/// to it. Behind a run the tallies are those of its components, in order; what stood there is gone, and may be where there is no run.
+/// to it. Behind a run the tallies are those of its components, in order; what stood there is gone then, and may be gone where there is no run, too.
 ///
 /// It answers `TooManyTurns` where each worker would have more than 100,000 turns; then `BadInput` with the first action that is no input
 /// of the composition; `Threads` where a thread was refused, once the others are stopped and have ended, or where one has ended without a
@@ -67,8 +67,8 @@ pub fn run_threads<R: Threads + Wait + Sync, W: Words + Send + Drop, G: Gate + S
 /// Runs the program on threads as `run_threads` does, from where the run ended that the log tells: what the log has stands at the beginning of the
 /// history, words and inputs begin anew, and the reports and the tallies tell of what is new.
 ///
-/// It answers as `run_threads` does; and after `TooManyTurns` and `BadInput` `EndedByFault` where the log ends by a fault, then `BadLog` with the
-/// first of its entries that is not the program's run's, or with their number where the end has another count.
+/// It answers as `run_threads` does; and after `TooManyTurns` and `BadInput`, `EndedByFault` where the log ends by a fault, then `BadLog` with the
+/// first of its entries whose worker is not its action's or whose action is not performed, or with their number where the end has another count.
 pub fn resume_threads<R: Threads + Wait + Sync, W: Words + Send + Drop, G: Gate + Sync>(
     rt: &R,
     alloc: Global,

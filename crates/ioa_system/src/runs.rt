@@ -17,7 +17,7 @@ use std::alloc::Global;
 pub struct Run {
     /// How many actions were performed.
     pub performed: usize,
-    /// The components' states then reached, in order: of the types of the program's slots, as `step_from` asks for them.
+    /// The components' states then reached, in order: of the types of the program's slots, as `System::of` asks for them.
     pub states: Vec<NodeState>,
     /// Why the run ended.
     pub end: End,
