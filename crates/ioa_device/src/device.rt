@@ -25,7 +25,7 @@ pub trait Device {
 pub trait InputDevice: Read + Device {
     ghost given_count: { Self → ℕ };
 
-    /// One read: how many bytes it put in front of the piece, or `Failed`, which is counted.
+    /// One read: how many bytes it put at the front of the piece, or `Failed`, which is counted.
     fn pull(&mut self, piece: &mut [u8]) -> Result<usize, Failed>
         ensures bound { ReadsAtMost result piece.new }
         ensures bytes { ReadConsumes (Self.remaining self.old) (Self.remaining self.new) result piece.new }
