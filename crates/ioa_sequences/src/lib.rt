@@ -5,6 +5,6 @@
 mod sequences;
 
 pub use sequences::{
-    append, append_word, first_place, item_count, last_place, pick, pick_word, place_among,
-    place_of, shorten, without,
+    append, append_word, count_word, first_place, item_count, last_place, pick, pick_word,
+    place_among, place_of, shorten, without,
 };

@@ -18,7 +18,7 @@ mod working;
 // Laws.
 mod laws;
 
-pub use decoding::decode;
+pub use decoding::{decode, sizes_of};
 pub use laws::{
     as_many_words, equal_words, marked_are_read, operators_agree, parts_stand, values_are_words,
     words_are_read, written_are_marked,
@@ -26,4 +26,4 @@ pub use laws::{
 pub use layout::Layout;
 pub use reading::{read_value, read_values};
 pub use word_op::{Part, Sizes, WordOp};
-pub use writing::{push_value, push_values};
+pub use writing::{pad, push_value, push_values};
