@@ -93,15 +93,18 @@ fn inspect_table(
     ensures verdict { IfErr result (λ e. TellsVerdict e (judged (tabled program.now) (start_states program.now) (logged log.now))) }
 {
     let mut judge = TracedJudge::start(alloc, program)?;
+    let mut workspace = Workspace::new(alloc);
     let mut broken = None;
     for count in 0..log.entries.len() {
-        broken = or_broken_in(alloc, asked, broken, count, judge.states())?;
+        let states = judge.states();
+        broken = or_broken_in(alloc, &mut workspace, asked, broken, count, states)?;
         let entry = &log.entries[count];
         judge.follow(entry)?;
     }
     let run = judge.finish(log.end)?;
     let broken = or_broken_at_end(
         alloc,
+        &mut workspace,
         asked,
         broken,
         log.entries.len(),
@@ -114,6 +117,7 @@ fn inspect_table(
 /// The invariant that was found before or, without one, the first that is broken in these states, after so many actions.
 fn or_broken_in(
     alloc: Global,
+    workspace: &mut Workspace,
     asked: &Asked<'_>,
     before: Option<Broken>,
     count: usize,
@@ -126,13 +130,14 @@ fn or_broken_in(
 {
     match before {
         Some(_) => Ok(before),
-        None => broken_in(alloc, asked, count, states),
+        None => broken_in(alloc, workspace, asked, count, states),
     }
 }
 
 /// The same in the states in which a run over so many actions ends. Where the last one faults, it changes nothing.
 pub(crate) fn or_broken_at_end(
     alloc: Global,
+    workspace: &mut Workspace,
     asked: &Asked<'_>,
     before: Option<Broken>,
     count: usize,
@@ -145,7 +150,7 @@ pub(crate) fn or_broken_at_end(
         (broken_at_end (composed_of asked.now) count (ending_of end) (states_in (composed_of asked.now).members 0 (values_of states.now)))) }
 {
     match end {
-        End::Done(_) => or_broken_in(alloc, asked, before, count, states),
+        End::Done(_) => or_broken_in(alloc, workspace, asked, before, count, states),
         End::NotAnAction(_) | End::NotEnabled(_) | End::Fault(_, _, _) => Ok(before),
     }
 }
@@ -153,6 +158,7 @@ pub(crate) fn or_broken_at_end(
 /// The first invariant that is broken in these states, after so many actions.
 fn broken_in(
     alloc: Global,
+    workspace: &mut Workspace,
     asked: &Asked<'_>,
     count: usize,
     states: &[NodeState],
@@ -162,10 +168,9 @@ fn broken_in(
     ensures { IfOk result (λ b. option_map broken_of b
         ≡ spec.broken_at (composed_of asked.now) count (states_in (composed_of asked.now).members 0 (values_of states.now))) }
 {
-    let mut workspace = Workspace::new(alloc);
     for component in 0..states.len() {
         let state = &states[component];
-        let first = broken_by(alloc, &mut workspace, asked, component, state)?;
+        let first = broken_by(alloc, workspace, asked, component, state)?;
         if let Some(invariant) = first {
             return Ok(Some(Broken {
                 state: count,

@@ -42,12 +42,12 @@ loop-count-init c =
     (c.in_ok-judge.ensures, asked_none (composed_of c.args.asked.now) c.args.program.now acts (reached_by c.in_ok-judge.judge.judge.runner) c.requires c.in_ok-judge.ensures.run.reached)
 
 pub or_broken_in-requires-clause-states : goal.or_broken_in-requires-clause-states
-or_broken_in-requires-clause-states c = subst (AreStates (composed_of c.args.asked.now).members) (sym c.states.ensures.values) c.loop-count.invariant.1.states
+or_broken_in-requires-clause-states c = subst (AreStates (composed_of c.args.asked.now).members) (sym c.states-states.ensures.values) c.loop-count.invariant.1.states
 
 pub or_broken_in-requires-clause-typed : goal.or_broken_in-requires-clause-typed
 or_broken_in-requires-clause-typed c =
-    typed_states (composed_of c.args.asked.now).members c.args.program.now.members c.states.result.now c.requires.tables
-    (c.states.ensures.types ∙ ap (λ (p : Prog). slot_types p.members) c.loop-count.invariant.0.run.program)
+    typed_states (composed_of c.args.asked.now).members c.args.program.now.members c.states-states.result.now c.requires.tables
+    (c.states-states.ensures.types ∙ ap (λ (p : Prog). slot_types p.members) c.loop-count.invariant.0.run.program)
 
 pub follow-requires : goal.follow-requires
 follow-requires c =
@@ -71,7 +71,7 @@ loop-count-preserved c =
     let t = judged_step p (map log_entry (take n es)) _ _ c.loop-count.judge.judge c.follow.new.self.judge (log_entry x) c.loop-count.invariant.0 f in
     let m : length (map log_entry (take n es)) ≡ n = so_many es n l in
     let asked : option_map broken_of c.in_ok-broken.broken ≡ or_else o (spec.broken_at s n (states_in s.members 0 c.loop-count.judge.judge.runner.states)) =
-    c.in_ok-broken.ensures ∙ ap (λ (vss : List (List Val)). or_else o (spec.broken_at s n (states_in s.members 0 vss))) c.states.ensures.values in (
+    c.in_ok-broken.ensures ∙ ap (λ (vss : List (List Val)). or_else o (spec.broken_at s n (states_in s.members 0 vss))) c.states-states.ensures.values in (
       subst (λ ys. HasTraced p ys c.follow.new.self) (one_taken es n x l c.index-entry.ensures) f,
       asked_more s p acts n (log_entry x).1 (reached_by c.loop-count.judge.judge.runner) (reached_by c.follow.new.self.judge.runner) o (option_map broken_of c.in_ok-broken.broken) k
           (read_map (λ (e : ℕ × Act). e.1) (map log_entry es) n (log_entry x) (log_entry x) (read_map log_entry es n x x c.index-entry.ensures))

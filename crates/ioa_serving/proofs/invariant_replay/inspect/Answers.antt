@@ -20,14 +20,14 @@ pub returns-in_ok-line-in-Some-clause-finds : goal.returns-in_ok-line-in-Some-cl
 returns-in_ok-line-in-Some-clause-finds g c = λ h stands.
     IfSome_then (g.R.Read.remaining c.args.input.now) (c.in_ok-inspection.ensures.ok (of_hosts h) stands)
     (λ xs k.
-    let first : Some (broken_of c.in-Some.broken) ≡ first_broken_host h (actions_of k.log) = ap (option_map broken_of) (sym c.in-Some.is) ∙ k.broken in
-    let found = found_broken h k.log c.in-Some.broken first in
-    (k.log, k.is_log, found, c.in_ok-line-in-Some.ensures ∙ ap (found_text h k.log) found))
+    let first : Some (broken_of c.in-Some.broken) ≡ first_broken_host h (actions_of k.replayed.log) = ap (option_map broken_of) (sym c.in-Some.is) ∙ k.broken in
+    let found = found_broken h k.replayed.log c.in-Some.broken first in
+    (k.replayed.log, k.replayed.is_log, found, c.in_ok-line-in-Some.ensures ∙ ap (found_text h k.replayed.log) found))
 
 pub returns-in-None-clause-finds : goal.returns-in-None-clause-finds
 returns-in-None-clause-finds g c = λ h stands.
     IfSome_then (g.R.Read.remaining c.args.input.now) (c.in_ok-inspection.ensures.ok (of_hosts h) stands)
     (λ xs k.
-    let none : None ≡ first_broken_host h (actions_of k.log) = ap (option_map broken_of) (sym c.in-None.is) ∙ k.broken in
-    let found = found_unbroken h k.log c.in_ok-inspection.inspection.replayed.end none k.ending in
-    (k.log, k.is_log, found, k.text ∙ ap (found_text h k.log) found))
+    let none : None ≡ first_broken_host h (actions_of k.replayed.log) = ap (option_map broken_of) (sym c.in-None.is) ∙ k.broken in
+    let found = found_unbroken h k.replayed.log c.in_ok-inspection.inspection.replayed.end none k.replayed.ending in
+    (k.replayed.log, k.replayed.is_log, found, k.replayed.text ∙ ap (found_text h k.replayed.log) found))
