@@ -17,9 +17,9 @@ use Rattle.ioa_board.specs.declared.report.Report.{Report}
 use Rattle.ioa_board.specs.declared.report.Why.{Why}
 
 -- the history, and last the action that faulted
-abbrev pub logged : List (ℕ × Act) → Option Failure → List (ℕ × Act)
-logged h None = h
-logged h (Some r) = h ++ r.entry ∷ []
+abbrev pub with_faulted : List (ℕ × Act) → Option Failure → List (ℕ × Act)
+with_faulted h None = h
+with_faulted h (Some r) = h ++ r.entry ∷ []
 
 abbrev pub ending : List (ℕ × Act) → Option Failure → Ending
 ending h None = done (length h)
@@ -28,11 +28,11 @@ ending h (Some r) = fault_at r.component r.fault (length h)
 -- the log, its end and the states are the board's, whose history is legal and whose fault is its action's; and they are those of the run
 -- over the logged actions
 pub record IsLogOf (p : Prog) (b : Standing (List Val)) (log : List LogEntry) (end : LogEnd) (ns : List Node) : Type 0 where
-  pub entries : map log_entry log ≡ logged b.history b.failure
+  pub entries : map log_entry log ≡ with_faulted b.history b.failure
   pub ends : log_end end ≡ ending b.history b.failure
   pub states : values_of ns ≡ b.states
   pub sound : IsSound (tabled p) (start_states p) b
-  pub runs : run (tabled p) (acts_of (logged b.history b.failure)) (start_states p) ≡ record { performed = length b.history; states = b.states; ending = ending b.history b.failure }
+  pub runs : run (tabled p) (acts_of (with_faulted b.history b.failure)) (start_states p) ≡ record { performed = length b.history; states = b.states; ending = ending b.history b.failure }
 
 -- the last of the log is an action that faulted
 abbrev pub IsFault : Ending → Type 0

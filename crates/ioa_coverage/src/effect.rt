@@ -65,6 +65,7 @@ impl Effect<'_> {
         if !has(self.member, self.entry, action) {
             return Ok(());
         }
+        // Called for its promise alone: the values are of the types of the variables.
         let _types = state.types();
         let slots = state_values(alloc, state)?;
         self.take_in(alloc, action, &slots)

@@ -17,7 +17,7 @@ use Rattle.ioa_board.specs.Boards.{Commits, Intent, Plans, intent}
 use Rattle.ioa_board.specs.Planning.{IfReady, IsOf, answer_of, intent_of, plan_in, PlansNow}
 use Rattle.ioa_board.specs.ProgramBoards.{ProgramBoard, start_board}
 use Rattle.ioa_board.specs.ProgramPlans.{ProgramPlan}
-use Rattle.ioa_run.specs.ProgramSchedules.{ArePlans, CopyAnswers, IsPlay, ProgramSchedule, intents, settled_of, start_program}
+use Rattle.ioa_run.specs.ProgramSchedules.{ArePlans, CopyAnswers, IsPlay, ScheduledProgram, intents, settled_of, start_program}
 use Rattle.ioa_run.specs.Schedules.{Answers, Event, Plays, Schedule, Spends, copy, plan_of, start_schedule}
 use Rattle.ioa_board.specs.Verdicts.{Commit, Decides, GivesBack}
 use Rattle.ioa_board.proofs.PlannedNow.{planned_now}
@@ -76,7 +76,7 @@ none_planned p b n plans e f g =
     let l : n ≡ length (start_states p) = g ∙ sym (length-map p.members (λ (m : MemberCode). m.start.values)) in
     let q : intents plans ≡ replicate (length (start_states p) + 1) None =
     ap intents f ∙ map_none (n + 1) ∙ ap (λ (k : ℕ). replicate (k + 1) None) l in
-    let F : ProgramBoard → List (Option (Intent (List Val))) → ProgramSchedule = λ (x : ProgramBoard) (ys : List (Option (Intent (List Val)))). record { program = x.program; schedule = record { board = x.board; plans = ys } } in
+    let F : ProgramBoard → List (Option (Intent (List Val))) → ScheduledProgram = λ (x : ProgramBoard) (ys : List (Option (Intent (List Val)))). record { program = x.program; schedule = record { board = x.board; plans = ys } } in
     ap (λ (x : ProgramBoard). F x (intents plans)) e ∙ ap (F (start_board p)) q
 
 -- ---- what planning answers
@@ -105,7 +105,7 @@ plays_more ps [] s (b ∷ bs) t u e a h k = absurd h
 plays_more ps (f ∷ es) s [] t u e a h k = absurd h
 plays_more ps (f ∷ es) s (b ∷ bs) t u e a h k = (h.0, h.1, plays_more ps es h.0 bs t u e a h.2 k)
 
-pub play_more : (p : Prog) (es : List Event) (s u : ProgramSchedule) (as' : List Answer) (e : Event) (a : Answer) → IsPlay p es s as' → Answers (tabled s.program) e s.schedule a u.schedule
+pub play_more : (p : Prog) (es : List Event) (s u : ScheduledProgram) (as' : List Answer) (e : Event) (a : Answer) → IsPlay p es s as' → Answers (tabled s.program) e s.schedule a u.schedule
     → u.program ≡ s.program → IsPlay p (es ++ e ∷ []) u (as' ++ a ∷ [])
 play_more p es s u as' e a h k same = record {
   program = same ∙ h.program;
@@ -114,7 +114,7 @@ play_more p es s u as' e a h k same = record {
 
 -- ---- the run after an event
 
-abbrev pub run_of : ProgramBoard → List (Option ProgramPlan) → ProgramSchedule
+abbrev pub run_of : ProgramBoard → List (Option ProgramPlan) → ScheduledProgram
 run_of b plans = record { program = b.program; schedule = record { board = b.board; plans = intents plans } }
 
 intents_put : (plans new : List (Option ProgramPlan)) (w : ℕ) (q : Option ProgramPlan) → new ≡ slice_set plans w q
@@ -126,7 +126,7 @@ plan_intent [] w = refl
 plan_intent (x ∷ xs) zero = refl
 plan_intent (x ∷ xs) (suc w) = plan_intent xs w
 
-pub copied : (b : ProgramBoard) (plans new : List (Option ProgramPlan)) (w : ℕ) (act : Act) (r : Planned) (a : Answer) (q : Option ProgramPlan) (s : ProgramSchedule) → run_of b plans ≡ s
+pub copied : (b : ProgramBoard) (plans new : List (Option ProgramPlan)) (w : ℕ) (act : Act) (r : Planned) (a : Answer) (q : Option ProgramPlan) (s : ScheduledProgram) → run_of b plans ≡ s
     → PlansNow b w act r → a ≡ answer_of r → q ≡ plan_in r → new ≡ slice_set plans w q → Answers (tabled s.program) (copy w act) s.schedule a (record { board = b.board; plans = intents new })
 copied b plans new w act r a q s v h e f n =
     let ps : List (Component (List Val)) = tabled b.program in
@@ -134,20 +134,20 @@ copied b plans new w act r a q s v h e f n =
     let k : Plans w (worker ps act) (step ps act ss) (intent ps act ss) a (intent_of r) = subst (λ x. Plans w (worker ps act) (step ps act ss) (intent ps act ss) x (intent_of r)) (sym e) h.plans in
     let i : intents new ≡ slice_set (intents plans) w (intent_of r) =
     intents_put plans new w q n ∙ ap (λ x. slice_set (intents plans) w (option_map (λ (p : ProgramPlan). p.intent) x)) f ∙ ap (slice_set (intents plans) w) (intent_in r) in
-    subst (λ (x : ProgramSchedule). Answers (tabled x.program) (copy w act) x.schedule a (record { board = b.board; plans = intents new })) v
+    subst (λ (x : ScheduledProgram). Answers (tabled x.program) (copy w act) x.schedule a (record { board = b.board; plans = intents new })) v
     (intent_of r, k, ap (λ xs. record { board = b.board; plans = xs }) i)
 
-pub nothing_spent : (b : ProgramBoard) (plans new : List (Option ProgramPlan)) (w : ℕ) (s : ProgramSchedule) → run_of b plans ≡ s → None ≡ unwrap_or (slice_get plans w) None
+pub nothing_spent : (b : ProgramBoard) (plans new : List (Option ProgramPlan)) (w : ℕ) (s : ScheduledProgram) → run_of b plans ≡ s → None ≡ unwrap_or (slice_get plans w) None
     → new ≡ slice_set plans w None → Spends (tabled s.program) w (plan_of s.schedule w) s.schedule Answer.NoPlan (record { board = b.board; plans = intents new })
 nothing_spent b plans new w s v e n =
     let none : plan_of (run_of b plans).schedule w ≡ None = plan_intent plans w ∙ ap (option_map (λ (p : ProgramPlan). p.intent)) (sym e) in
     let same : intents new ≡ intents plans = ap intents (n ∙ nothing_taken plans w e) in
     let t : Schedule (List Val) = record { board = b.board; plans = intents new } in
     let k : Spends (tabled b.program) w None (run_of b plans).schedule Answer.NoPlan t = (refl, ap (λ xs. record { board = b.board; plans = xs }) same) in
-    subst (λ (x : ProgramSchedule). Spends (tabled x.program) w (plan_of x.schedule w) x.schedule Answer.NoPlan t) v
+    subst (λ (x : ScheduledProgram). Spends (tabled x.program) w (plan_of x.schedule w) x.schedule Answer.NoPlan t) v
     (subst (λ o. Spends (tabled b.program) w o (run_of b plans).schedule Answer.NoPlan t) (sym none) k)
 
-pub plan_spent : (b b' : ProgramBoard) (plans new : List (Option ProgramPlan)) (w : ℕ) (q : ProgramPlan) (a : Answer) (s : ProgramSchedule) → run_of b plans ≡ s → IsOf b.program w q
+pub plan_spent : (b b' : ProgramBoard) (plans new : List (Option ProgramPlan)) (w : ℕ) (q : ProgramPlan) (a : Answer) (s : ScheduledProgram) → run_of b plans ≡ s → IsOf b.program w q
     → Some q ≡ unwrap_or (slice_get plans w) None → new ≡ slice_set plans w None → Commit b q a b'
     → Spends (tabled s.program) w (plan_of s.schedule w) s.schedule a (record { board = b'.board; plans = intents new })
 plan_spent b b' plans new w q a s v o e n c =
@@ -155,7 +155,7 @@ plan_spent b b' plans new w q a s v o e n c =
     let t : Schedule (List Val) = record { board = b'.board; plans = intents new } in
     let k : Commits (tabled b.program) w q.intent b.board a b'.board = subst (λ u. Commits (tabled b.program) u q.intent b.board a b'.board) o.who c.commits in
     let j : Spends (tabled b.program) w (Some q.intent) (run_of b plans).schedule a t = (b'.board, k, ap (λ xs. record { board = b'.board; plans = xs }) (intents_put plans new w None n)) in
-    subst (λ (x : ProgramSchedule). Spends (tabled x.program) w (plan_of x.schedule w) x.schedule a t) v
+    subst (λ (x : ScheduledProgram). Spends (tabled x.program) w (plan_of x.schedule w) x.schedule a t) v
     (subst (λ p. Spends (tabled b.program) w p (run_of b plans).schedule a t) (sym some) j)
 
 pub decided : (b b' : ProgramBoard) (q : ProgramPlan) (v : Verdict) (a : Answer) → Decides b q v b' → Ok a ≡ settled_of v → Commit b q a b'

@@ -53,7 +53,7 @@ use Rattle.ioa_system.proofs.Subjects.{worker_as}
 use Rattle.ioa_run.specs.Alone.{turns_since}
 use Rattle.ioa_board.specs.Boards.{Failure, IsFailureFrom, IsSound, Standing}
 use Rattle.ioa_board.specs.Histories.{GoesOn, acts_of, since}
-use Rattle.ioa_board.specs.Outcomes.{IsLogOf, ending, logged}
+use Rattle.ioa_board.specs.Outcomes.{IsLogOf, ending, with_faulted}
 use Rattle.ioa_board.specs.Planning.{answer_of, intent_of}
 use Rattle.ioa_run.specs.Played.{events_since}
 use Rattle.ioa_run.specs.Proposers.{by_code, by_entry, filled, filled_in, host_proposers_of, its_proposers, member_proposers_of, proposers, proposers_of}
@@ -542,10 +542,10 @@ module _ (p : Prog) (s : Subject) (runs : RunsAs p s) where
 
 -- the run over the logged actions of a sound board
 sound_run : {S : Type 0} (ps : List (Component S)) (ss : List S) (b : Standing S) → IsSound ps ss b
-    → run ps (acts_of (logged b.history b.failure)) ss ≡ record { performed = length b.history; states = b.states; ending = ending b.history b.failure }
+    → run ps (acts_of (with_faulted b.history b.failure)) ss ≡ record { performed = length b.history; states = b.states; ending = ending b.history b.failure }
 sound_run ps ss b s = go b.failure refl
   where
-    go : (o : Option Failure) → b.failure ≡ o → run ps (acts_of (logged b.history o)) ss ≡ record { performed = length b.history; states = b.states; ending = ending b.history o }
+    go : (o : Option Failure) → b.failure ≡ o → run ps (acts_of (with_faulted b.history o)) ss ≡ record { performed = length b.history; states = b.states; ending = ending b.history o }
     go None e = legal_run ps b.history ss b.states s.legal
     go (Some r) e =
         let f = subst (λ x. IsFailureFrom ps b.states x) e s.failure in
@@ -558,7 +558,7 @@ log_as : (p : Prog) (s : Subject) (b : Standing (List Val)) (d : Standing (State
 log_as p s b d log end ns runs l g =
     let sound : IsSound (its_components s) (its_starts s) d = sound_like p s runs d b l g.sound in
     record {
-      entries = g.entries ∙ ap (λ hs. logged hs b.failure) (sym l.history) ∙ ap (logged d.history) (sym l.failure);
+      entries = g.entries ∙ ap (λ hs. with_faulted hs b.failure) (sym l.history) ∙ ap (with_faulted d.history) (sym l.failure);
       ends = g.ends ∙ ap (λ hs. ending hs b.failure) (sym l.history) ∙ ap (ending d.history) (sym l.failure);
       states = subst (AllRelated (InSlots p s) 0 d.states) (sym g.states) l.states;
       sound = sound;

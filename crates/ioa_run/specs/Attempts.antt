@@ -8,17 +8,17 @@ use Rattle.ioa_run.specs.Schedules.{Answers, Schedule, commit, copy}
 use Rattle.ioa_board.specs.declared.answer.Answer.{Answer}
 
 -- the copy is refused so, and no board changes
-abbrev pub IsRefused : {S : Type 0} → List (Component S) → ℕ → Act → Schedule S → Answer → Standing S → Type 0
-IsRefused {S} ps w a s x b = (t : Schedule S) × Answers ps (copy w a) s x t × (t.board ≡ s.board) × (b ≡ s.board)
+abbrev pub IsCopyRefused : {S : Type 0} → List (Component S) → ℕ → Act → Schedule S → Answer → Standing S → Type 0
+IsCopyRefused {S} ps w a s x b = (t : Schedule S) × Answers ps (copy w a) s x t × (t.board ≡ s.board) × (b ≡ s.board)
 
 -- the copy is planned, and the commit that follows is answered so
 abbrev pub IsCommitted : {S : Type 0} → List (Component S) → ℕ → Act → Schedule S → Answer → Standing S → Type 0
 IsCommitted {S} ps w a s x b = (t u : Schedule S) × Answers ps (copy w a) s Answer.Planned t × Answers ps (commit w) t x u × (u.board ≡ b)
 
 abbrev pub IsAttempt : {S : Type 0} → List (Component S) → ℕ → Act → Schedule S → Answer → Standing S → Type 0
-IsAttempt ps w a s Answer.NotAnAction b = IsRefused ps w a s Answer.NotAnAction b
-IsAttempt ps w a s Answer.NotYours b = IsRefused ps w a s Answer.NotYours b
-IsAttempt ps w a s Answer.NotEnabled b = IsRefused ps w a s Answer.NotEnabled b
+IsAttempt ps w a s Answer.NotAnAction b = IsCopyRefused ps w a s Answer.NotAnAction b
+IsAttempt ps w a s Answer.NotYours b = IsCopyRefused ps w a s Answer.NotYours b
+IsAttempt ps w a s Answer.NotEnabled b = IsCopyRefused ps w a s Answer.NotEnabled b
 IsAttempt ps w a s Answer.Stopped b = IsCommitted ps w a s Answer.Stopped b
 IsAttempt ps w a s (Answer.Faulted c f) b = IsCommitted ps w a s (Answer.Faulted c f) b
 IsAttempt ps w a s (Answer.Committed n) b = IsCommitted ps w a s (Answer.Committed n) b

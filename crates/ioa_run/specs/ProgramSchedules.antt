@@ -19,7 +19,7 @@ use Rattle.ioa_run.specs.Schedules as machine
 use Rattle.ioa_run.specs.Schedules.{Answers, Plays, Schedule, start_schedule, with_plan}
 use Rattle.ioa_board.specs.Coded.{coded_intent, coded_standing}
 
-pub record ProgramSchedule : Type 0 where
+pub record ScheduledProgram : Type 0 where
   pub program : Prog
   pub schedule : Schedule (List Val)
 
@@ -28,15 +28,15 @@ coded_schedule =
     code_by (Standing (List Val) × List (Option (Intent (List Val)))) (coded× coded_standing (coded_list (coded_option coded_intent))) (λ s. (s.board, s.plans))
     (λ p. record { board = p.0; plans = p.1 }) (λ _. refl)
 
-abbrev pub coded_program_schedule : Coded ProgramSchedule
-coded_program_schedule =
+abbrev pub coded_scheduled_program : Coded ScheduledProgram
+coded_scheduled_program =
     code_by (Prog × Schedule (List Val)) (coded× coded_prog coded_schedule) (λ s. (s.program, s.schedule)) (λ p. record { program = p.0; schedule = p.1 }) (λ _. refl)
 
 -- the board as it is now
-abbrev pub board_now : ProgramSchedule → ProgramBoard
+abbrev pub board_now : ScheduledProgram → ProgramBoard
 board_now s = record { program = s.program; board = s.schedule.board }
 
-abbrev pub start_program : Prog → ProgramSchedule
+abbrev pub start_program : Prog → ScheduledProgram
 start_program p = record { program = p; schedule = start_schedule (start_states p) }
 
 -- an event without the memory that holds it
@@ -68,7 +68,7 @@ abbrev pub Settles : Verdict → Result Answer ProgramPlan → Type 0
 Settles v r = r ≡ settled_of v
 
 -- the machine's answers to these events, from the start, and the schedule to which they lead
-pub record IsPlay (p : Prog) (es : List machine.Event) (s : ProgramSchedule) (as' : List Answer) : Type 0 where
+pub record IsPlay (p : Prog) (es : List machine.Event) (s : ScheduledProgram) (as' : List Answer) : Type 0 where
   pub program : s.program ≡ p
   pub plays : Plays (tabled p) es (start_schedule (start_states p)) as' s.schedule
 

@@ -24,7 +24,7 @@ use Rattle.ioa_system.specs.declared.log.LogEntry.{LogEntry}
 use Rattle.ioa_run.specs.Alone.{IsAloneFrom, IsOutcomeFrom, turns_since}
 use Rattle.ioa_board.specs.Boards.{Intent, IsSound, Standing, now_of, intent}
 use Rattle.ioa_board.specs.Histories.{GoesOn, acts_of, since}
-use Rattle.ioa_board.specs.Outcomes.{ending, logged}
+use Rattle.ioa_board.specs.Outcomes.{ending, with_faulted}
 use Rattle.ioa_board.specs.Planning.{Makes, answer_of, intent_of}
 use Rattle.ioa_run.specs.Played.{events_since}
 use Rattle.ioa_board.specs.Reports.{AreTold}
@@ -88,11 +88,11 @@ pub record AreResumed (p : Prog) (s : Subject) (log : Logged) (d : Standing (Sta
 -- the log, its end and the slots are those of the subject's board, whose history is legal and whose fault is its action's; and they are those
 -- of the subject's run over the logged actions
 pub record IsLogAs (p : Prog) (s : Subject) (b : Standing (State s)) (log : List LogEntry) (end : LogEnd) (ns : List Node) : Type 0 where
-  pub entries : map log_entry log ≡ logged b.history b.failure
+  pub entries : map log_entry log ≡ with_faulted b.history b.failure
   pub ends : log_end end ≡ ending b.history b.failure
   pub states : AllRelated (InSlots p s) 0 b.states (values_of ns)
   pub sound : IsSound (its_components s) (its_starts s) b
-  pub runs : run (its_components s) (acts_of (logged b.history b.failure)) (its_starts s)
+  pub runs : run (its_components s) (acts_of (with_faulted b.history b.failure)) (its_starts s)
       ≡ record { performed = length b.history; states = b.states; ending = ending b.history b.failure }
 
 -- it goes on from what was done before, and the reports tell of what is new

@@ -36,11 +36,11 @@ impl Drop for Core<'_> {
 }
 
 impl<'p> Model for Core<'p> {
-    ghost use Rattle.ioa_run.specs.ProgramSchedules.{ProgramSchedule, coded_program_schedule};
+    ghost use Rattle.ioa_run.specs.ProgramSchedules.{ScheduledProgram, coded_scheduled_program};
 
-    ghost Value = { ProgramSchedule };
+    ghost Value = { ScheduledProgram };
 
-    ghost coded = { coded_program_schedule };
+    ghost coded = { coded_scheduled_program };
 
     ghost use Rattle.ioa_run.specs.ProgramSchedules.{ArePlans, intents};
 

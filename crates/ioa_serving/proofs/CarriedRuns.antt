@@ -20,7 +20,7 @@ use Rattle.ioa_log.proofs.AgreeingLogs.{judged_as, text_as}
 use Rattle.ioa_board.specs.declared.report.Report.{Report}
 use Rattle.ioa_board.specs.Boards.{Standing}
 use Rattle.ioa_board.specs.Histories.{since}
-use Rattle.ioa_board.specs.Outcomes.{ending, logged}
+use Rattle.ioa_board.specs.Outcomes.{ending, with_faulted}
 use Rattle.ioa_board.specs.Reports.{AreTold}
 use Rattle.ioa_board.specs.Resuming.{resumption}
 use Rattle.ioa_run.specs.declared.tally.Tries.{Tries}
@@ -120,8 +120,8 @@ module _ (p : Prog) (s : Subject) (runs : RunsAs p s) where
     λ k. let b = table_resumed p s runs first k.0 k.1 in (b.0, b.1, (both k.0 b.0 k.1 b.1).1 k.2),
   )
     where
-      logged_same : {S T : Type 0} (b : Standing S) (d : Standing T) → b.history ≡ d.history → b.failure ≡ d.failure → logged b.history b.failure ≡ logged d.history d.failure
-      logged_same b d e f = ap (λ es. logged es b.failure) e ∙ ap (logged d.history) f
+      with_faulted_same : {S T : Type 0} (b : Standing S) (d : Standing T) → b.history ≡ d.history → b.failure ≡ d.failure → with_faulted b.history b.failure ≡ with_faulted d.history d.failure
+      with_faulted_same b d e f = ap (λ es. with_faulted es b.failure) e ∙ ap (with_faulted d.history) f
 
       ending_same : {S T : Type 0} (b : Standing S) (d : Standing T) → b.history ≡ d.history → b.failure ≡ d.failure → ending b.history b.failure ≡ ending d.history d.failure
       ending_same b d e f = ap (λ es. ending es b.failure) e ∙ ap (ending d.history) f
@@ -130,7 +130,7 @@ module _ (p : Prog) (s : Subject) (runs : RunsAs p s) where
           → IsRoundRobin (of_table p) b words script turns log reports ↔ IsRoundRobin s d words script turns log reports
       both d b its table =
           let l = same_turns p s first d b words script turns program runs (record { subject = its; program = table }) in
-          let entries = logged_same (round_robin_since s d words script turns).board (round_robin_since (of_table p) b words script turns).board l.board.history l.board.failure in
+          let entries = with_faulted_same (round_robin_since s d words script turns).board (round_robin_since (of_table p) b words script turns).board l.board.history l.board.failure in
           let ends = ending_same (round_robin_since s d words script turns).board (round_robin_since (of_table p) b words script turns).board l.board.history l.board.failure in (
             λ k. record { entries = k.entries ∙ sym entries; ends = k.ends ∙ sym ends; told = k.told ∙ sym l.reports },
             λ k. record { entries = k.entries ∙ entries; ends = k.ends ∙ ends; told = k.told ∙ l.reports },

@@ -35,7 +35,7 @@ use Rattle.ioa_run.specs.Alone.{IsFirstOther}
 use Rattle.ioa_board.specs.Boards.{Failure, IsFailureFrom, Standing}
 use Rattle.ioa_board.specs.Histories.{GoesOn, acts_of, since}
 use Rattle.ioa_board.proofs.Performing.{legal_workers}
-use Rattle.ioa_board.specs.Outcomes.{HaveEnded, IsLogOf, ending, logged}
+use Rattle.ioa_board.specs.Outcomes.{HaveEnded, IsLogOf, ending, with_faulted}
 use Rattle.ioa_run.specs.Proposers.{local_entries, own_entries}
 use Rattle.ioa_board.specs.Reports.{AreTold}
 use Rattle.ioa_run.specs.declared.tally.Tries.{Tries}
@@ -89,7 +89,7 @@ own_names_same p (of_table q) same = ap (λ (r : Prog). map own_names r.members)
 abbrev pub log_of : List LogEntry → LogEnd → Logged
 log_of es end = record { entries = map log_entry es; ending = log_end end }
 
-end_after : (h : List (ℕ × Act)) (f : Option Failure) → IsEndAfter (length (logged h f)) (ending h f)
+end_after : (h : List (ℕ × Act)) (f : Option Failure) → IsEndAfter (length (with_faulted h f)) (ending h f)
 end_after h None = refl
 end_after h (Some r) = omega (arith, length-append h (r.entry ∷ []))
 
@@ -99,7 +99,7 @@ performed_is (LogEnd.Done n) h (Some r) e = let z : done n ≡ fault_at r.compon
 performed_is (LogEnd.Fault c f i) h None e = let z : fault_at c f i ≡ done (length h) = e in cc
 performed_is (LogEnd.Fault c f i) h (Some r) e = let z : fault_at c f i ≡ fault_at r.component r.fault (length h) = e in cc
 
-no_longer : (h : List (ℕ × Act)) (f : Option Failure) → length h ≤ length (logged h f)
+no_longer : (h : List (ℕ × Act)) (f : Option Failure) → length h ≤ length (with_faulted h f)
 no_longer h None = omega arith
 no_longer h (Some r) = omega (arith, length-append h (r.entry ∷ []))
 
@@ -139,7 +139,7 @@ module _ (p : Prog) (x : Subject) (runs : RunsAs p x) where
   }
 
   module _ (b : Standing (List Val)) (es : List LogEntry) (end : LogEnd) (ns : List Node) (l : IsLogOf p b es end ns) where
-    acts_same : actions_of (log_of es end) ≡ acts_of (logged b.history b.failure)
+    acts_same : actions_of (log_of es end) ≡ acts_of (with_faulted b.history b.failure)
     acts_same = ap acts_of l.entries
 
     subject_ending : (run (its_components x) (actions_of (log_of es end)) (its_starts x)).ending ≡ log_end end
@@ -152,10 +152,10 @@ module _ (p : Prog) (x : Subject) (runs : RunsAs p x) where
         (run_as p x runs (actions_of (log_of es end))).performed ∙ ap (λ acts. (run (tabled p) acts (start_states p)).performed) acts_same
         ∙ ap (λ r. r.performed) l.runs ∙ sym (performed_is end b.history b.failure l.ends)
 
-    all_workers : All (λ e. e.0 ≡ worker (tabled p) e.1) (logged b.history b.failure)
+    all_workers : All (λ e. e.0 ≡ worker (tabled p) e.1) (with_faulted b.history b.failure)
     all_workers = go b.failure l.sound.failure
       where
-        go : (f : Option Failure) → IsFailureFrom (tabled p) b.states f → All (λ e. e.0 ≡ worker (tabled p) e.1) (logged b.history f)
+        go : (f : Option Failure) → IsFailureFrom (tabled p) b.states f → All (λ e. e.0 ≡ worker (tabled p) e.1) (with_faulted b.history f)
         go None k = legal_workers (tabled p) b.history (start_states p) b.states l.sound.legal
         go (Some r) k = All-append (λ e. e.0 ≡ worker (tabled p) e.1) b.history (r.entry ∷ []) (legal_workers (tabled p) b.history (start_states p) b.states l.sound.legal)
             (All-cons (λ (e : ℕ × Act). e.0 ≡ worker (tabled p) e.1) r.entry [] k.0 (All-nil (λ (e : ℕ × Act). e.0 ≡ worker (tabled p) e.1)))
@@ -163,7 +163,7 @@ module _ (p : Prog) (x : Subject) (runs : RunsAs p x) where
     pub subject_tells : TellsRun (its_components x) (its_starts x) (log_of es end)
     subject_tells = record {
       ending = subject_ending;
-      whole = subst (λ n. IsEndAfter n (log_end end)) (sym (ap length l.entries)) (subst (λ e. IsEndAfter (length (logged b.history b.failure)) e) (sym l.ends) (end_after b.history b.failure));
+      whole = subst (λ n. IsEndAfter n (log_end end)) (sym (ap length l.entries)) (subst (λ e. IsEndAfter (length (with_faulted b.history b.failure)) e) (sym l.ends) (end_after b.history b.failure));
       workers = subst (All (λ (e : ℕ × Act). e.0 ≡ worker (its_components x) e.1)) (sym l.entries) (λ k d lt. all_workers k d lt ∙ worker_as p x runs _);
     }
 

@@ -54,7 +54,7 @@ front (a ∷ h) (b ∷ k) x y l e =
     let tails : h ++ x ∷ [] ≡ k ++ y ∷ [] = cc in
     ap₂ (λ z zs. z ∷ zs) heads (front h k x y (omega (arith, l)) tails)
 
-one_history : (h k : List (ℕ × Act)) (f g : Option BoardFailure) → boards.logged h f ≡ boards.logged k g → ending h f ≡ ending k g → h ≡ k
+one_history : (h k : List (ℕ × Act)) (f g : Option BoardFailure) → boards.with_faulted h f ≡ boards.with_faulted k g → ending h f ≡ ending k g → h ≡ k
 one_history h k None None e s = e
 one_history h k None (Some y) e s = absurd (cc)
 one_history h k (Some x) None e s = absurd (cc)
@@ -117,13 +117,13 @@ module _ (holds : Name → List ℕ → Type 0) (s : Settings) (r : Ran) (k : Ha
   same_text = text_same r.program k.subject k.runs k.board r.log.entries.items r.log.end k.states k.log s.log
 
   -- the history is what the log tells to be performed
-  first : (h : List (ℕ × Act)) (f : Option BoardFailure) → take (length h) (boards.logged h f) ≡ h
+  first : (h : List (ℕ × Act)) (f : Option BoardFailure) → take (length h) (boards.with_faulted h f) ≡ h
   first h None = take_all (length h) h (omega arith)
   first h (Some x) = take-append-le (length h) h (x.entry ∷ []) (omega arith) ∙ take_all (length h) h (omega arith)
 
   history_told : take (performed r.log.end) (map log_entry r.log.entries.items) ≡ k.board.history
   history_told =
-      ap (take (performed r.log.end)) k.log.entries ∙ ap (λ (n : ℕ). take n (boards.logged k.board.history k.board.failure)) (performed_is r.log.end k.board.history k.board.failure k.log.ends)
+      ap (take (performed r.log.end)) k.log.entries ∙ ap (λ (n : ℕ). take n (boards.with_faulted k.board.history k.board.failure)) (performed_is r.log.end k.board.history k.board.failure k.log.ends)
       ∙ first k.board.history k.board.failure
 
   new_told : new_in r ≡ since k.before.entries k.board.history

@@ -17,7 +17,7 @@ use Rattle.ioa_board.specs.ProgramRooms.{IsInput}
 use Rattle.ioa_run.specs.Alone.{IsFirstOther, NoMemory, most_turns}
 use Rattle.ioa_board.specs.Boards as boards
 use Rattle.ioa_board.specs.Histories.{GoesOn, since}
-use Rattle.ioa_board.specs.Outcomes.{HaveEnded, ending, logged}
+use Rattle.ioa_board.specs.Outcomes.{HaveEnded, ending, with_faulted}
 use Rattle.ioa_run.specs.Proposers.{its_proposers}
 use Rattle.ioa_board.specs.Reports.{AreTold}
 use Rattle.ioa_board.specs.Resuming.{resumption}
@@ -50,7 +50,7 @@ pub record IsRun (s : Subject) (before : List (ℕ × Act)) (script : List Act) 
   pub legal : TellsHistory (its_components s) (its_starts s) log
   pub history : List (ℕ × Act)
   pub failure : Option boards.Failure
-  pub entries : log.entries ≡ logged history failure
+  pub entries : log.entries ≡ with_faulted history failure
   pub ends : log.ending ≡ ending history failure
   pub goes_on : GoesOn before history
   pub told : AreTold (length (its_names s)) script turns (since before history) failure reports
@@ -63,7 +63,7 @@ round_robin_since s b words script turns = alone_from (its_components s) (its_pr
 
 -- the log and the reports are those of these turns
 pub record IsRoundRobin (s : Subject) (b : boards.Standing (State s)) (words : List Words) (script : List Act) (turns : ℕ) (log : Logged) (reports : List Report) : Type 0 where
-  pub entries : log.entries ≡ logged (round_robin_since s b words script turns).board.history (round_robin_since s b words script turns).board.failure
+  pub entries : log.entries ≡ with_faulted (round_robin_since s b words script turns).board.history (round_robin_since s b words script turns).board.failure
   pub ends : log.ending ≡ ending (round_robin_since s b words script turns).board.history (round_robin_since s b words script turns).board.failure
   pub told : reports ≡ (round_robin_since s b words script turns).reports
 
