@@ -1,12 +1,13 @@
 -- A text that is parted into lines as it is read.
-use Rattle.std.proofs.Common.{arith, true, false, min, take, drop, length-append, length-take, length-drop, ◌≡◌, ◌==◌, ◌<◌, ◌≤◌, ◌-◌, ℕ, ◌+◌, Bool, List, [], ◌∷◌, ◌++◌, ◌⊎◌, inl, inr, append_assoc, append-nil, length, Option, Some, None, IfSome, refl, sym, ap, subst, ◌∙◌}
+use Rattle.std.proofs.Common.{arith, nat_lt, true, false, min, take, drop, length-append, length-take, length-drop, ◌≡◌, ◌==◌, ◌<◌, ◌≤◌, ◌-◌, ℕ, ◌+◌, Bool, List, [], ◌∷◌, ◌++◌, ◌⊎◌, inl, inr, append_assoc, append-nil, length, Option, Some, None, IfSome, refl, sym, ap, subst, ◌∙◌}
 use Rattle.std.proofs.lemmas.List.{take-append-drop}
+use Rattle.std.proofs.lemmas.Bool.Decides.{nat_tests}
 use Rattle.std.proofs.Math.Seq.{drop-append_seam, take-append_seam}
 use Rattle.ioa_value.specs.Lists.{lines, first_line, after_line}
 use Rattle.ioa_value.proofs.ListLemmas.{cut_lines}
 use Rattle.ioa_device.specs.declared.failure.LogErr.{LogErr}
 use Rattle.ioa_device.specs.declared.line_reader.LineReader.{LineReader}
-use Rattle.ioa_device.specs.LineReading.{rest, to_come, AreTaken, IsLineText}
+use Rattle.ioa_device.specs.LineReading.{rest, to_come, AreTaken, HasByte, HasLine, IsLineText}
 
 -- ---- lines and their bytes
 
@@ -188,6 +189,38 @@ gathered_line (Some all) (Some more) r s line after t l m p e i =
       i ∙ sym (ap first_line whole ∙ first_joined r.line.items (line ++ (10 ∷ (after ++ more))) l ∙ ap (λ xs. r.line.items ++ xs) (first_joined line (10 ∷ (after ++ more)) m ∙ append-nil line)),
       ap (λ xs. Some (xs ++ more)) e ∙ ap (λ xs. Some xs) (sym (ap after_line whole ∙ after_joined r.line.items (line ++ (10 ∷ (after ++ more))) l ∙ after_joined line (10 ∷ (after ++ more)) m)),
     )
+
+-- an LF ends a line
+has_ended : (line after : List ℕ) → IsLineText (line ++ (10 ∷ after)) → ⊥
+has_ended [] after h = let never : [] ≡ 10 ∷ after = h in cc
+has_ended (b ∷ bs) after h = has_ended bs after (starts b (bs ++ (10 ∷ after)) h).1
+
+-- and so the text has one
+pub gathered_ended : (start known : Option (List ℕ)) (r : LineReader) (line after : List ℕ) (Q : Type 0) → Gathers start (to_come known r) r.line.items
+    → rest r ≡ line ++ (10 ∷ after) → IfSome start (λ all. IsLineText all → Q)
+gathered_ended None known r line after Q t p = tt
+gathered_ended (Some all) None r line after Q t p = absurd (let x : None ≡ Some t.0 = t.1 in cc)
+gathered_ended (Some all) (Some more) r line after Q t p = λ whole.
+    let others : rest r ++ more ≡ t.0 = let x : Some (rest r ++ more) ≡ Some t.0 = t.1 in cc in
+    let parts : all ≡ (r.line.items ++ line) ++ (10 ∷ (after ++ more)) =
+    t.2 ∙ ap (λ xs. r.line.items ++ xs) (sym others ∙ ap (λ xs. xs ++ more) p ∙ append_assoc line (10 ∷ after) more) ∙ sym (append_assoc r.line.items line (10 ∷ (after ++ more))) in
+    absurd (has_ended (r.line.items ++ line) (after ++ more) (subst IsLineText parts whole))
+
+-- of a line that is known a byte is
+pub has_byte : (r : LineReader) → HasLine r → HasByte r
+has_byte r (inr over) = inr over
+has_byte r (inl whole) = by (nat_lt r.start r.end) refl
+  where
+    by : (b : Bool) → nat_lt r.start r.end ≡ b → HasByte r
+    by true e = inl (grind (arith, nat_tests))
+    by false e =
+        let none : r.end - r.start ≡ 0 = grind (arith, nat_tests) in
+        absurd (whole (subst (λ (n : ℕ). IsLineText (take n (drop r.start r.room.items))) (sym none) refl))
+
+-- what holds anyhow
+pub of_each : (start : Option (List ℕ)) (P : List ℕ → Type 0) (Q : Type 0) → Q → IfSome start (λ all. P all → Q)
+of_each None P Q q = tt
+of_each (Some all) P Q q = λ _. q
 
 pub after_left : (xs l a : List ℕ) (i e : ℕ) → i ≤ e → e ≤ length xs → take (e - i) (drop i xs) ≡ l ++ (10 ∷ a) → take (e - (e - length a)) (drop (e - length a) xs) ≡ a
 after_left xs l a i e p q s =

@@ -1,5 +1,5 @@
 -- The lines that a reader gives, one after another.
-use Rattle.std.specs.Prelude.{◌≡◌, ◌≤◌, ◌<◌, ℕ, ◌-◌, true, List, [], ◌++◌, drop, take, length, Option, Some, IfSome, option_map}
+use Rattle.std.specs.Prelude.{◌≡◌, ◌≤◌, ◌<◌, ◌⊎◌, ℕ, ◌-◌, true, List, [], ◌++◌, drop, take, length, Option, Some, IfSome, option_map}
 use Rattle.ioa_value.specs.Lists.{first_line, lines}
 use Rattle.ioa_device.specs.declared.line_reader.LineReader.{LineReader}
 
@@ -15,9 +15,17 @@ IsWithin r = (r.end ≤ length r.room.items) × (r.start ≤ r.end) × (0 < leng
 abbrev pub IsOver : Option (List ℕ) → LineReader → Type 0
 IsOver known r = r.over ≡ true → IfSome known (λ bytes. bytes ≡ [])
 
+-- whether a byte is to come is known: one was read, or the end was seen
+abbrev pub HasByte : LineReader → Type 0
+HasByte r = (r.start < r.end) ⊎ (r.over ≡ true)
+
 -- the bytes that were read and are still to come
 abbrev pub rest : LineReader → List ℕ
 rest r = take (r.end - r.start) (drop r.start r.room.items)
+
+-- the next line is known: it was read to its LF, or the end was seen
+abbrev pub HasLine : LineReader → Type 0
+HasLine r = (IsLineText (rest r) → ⊥) ⊎ (r.over ≡ true)
 
 -- what is known of the bytes that are to come
 abbrev pub to_come : Option (List ℕ) → LineReader → Option (List ℕ)

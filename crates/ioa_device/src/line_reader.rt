@@ -3,7 +3,7 @@
 ghost use Rattle.std.specs.Prelude.{◌≡◌, ◌<◌, ◌≤◌, ◌-◌, ◌+◌, ◌^◌, ◌⊎◌, [], ℕ, Ok, Some, true, false, IfOk, IfErr, IfSome, OnOk, IsErrOf, length, min};
 ghost use Rattle.ioa_value.specs.Lists.{after_line, first_line};
 ghost use Rattle.ioa_device.specs.Devices.{FailsWhere, change};
-ghost use Rattle.ioa_device.specs.LineReading.{IsOver, IsWithin, rest, to_come};
+ghost use Rattle.ioa_device.specs.LineReading.{HasByte, HasLine, IsLineText, IsOver, IsWithin, rest, to_come};
 ghost use Rattle.ioa_device.specs.declared.failure.LogErr.{LogErr};
 
 use crate::device::{Failed, InputDevice};
@@ -53,7 +53,7 @@ impl LineReader {
         })
     }
 
-    /// Whether a byte is to come; `Io` where the reader fails.
+    /// Whether a byte is to come; `Io` where the reader fails. Of a byte that was read the reader is not asked again, nor behind its end.
     pub fn has_more<R: InputDevice>(&mut self, input: &mut R) -> Result<bool, LogErr>
         requires within { IsWithin self.old }
         requires over { IsOver (R.remaining input.old) self.old }
@@ -62,6 +62,8 @@ impl LineReader {
         ensures some { result ≡ Ok true → IfSome (to_come (R.remaining input.old) self.old) (λ all. (0 < length all) × (to_come (R.remaining input.new) self.new ≡ Some all)) }
         ensures none { result ≡ Ok false → IfSome (to_come (R.remaining input.old) self.old) (λ all. (all ≡ []) × (to_come (R.remaining input.new) self.new ≡ Some all)) }
         ensures room { result ≡ Ok true → self.new.start < self.new.end }
+        ensures asked { HasByte self.old → (input.new ≡ input.old) × (self.new ≡ self.old) }
+        ensures ended { result ≡ Ok false → self.new.over ≡ true }
         ensures line { self.new.line ≡ self.old.line }
         ensures counted { OnOk result ((n : ℕ) → min (n + length (rest self.old)) (2 ^ 64 - 1) ≤ R.given_count input.old → min (n + length (rest self.new)) (2 ^ 64 - 1) ≤ R.given_count input.new) }
         ensures devices { FailsWhere (IsErrOf result LogErr.Io) (change R.remaining R.failure_count input.old input.new) }
@@ -84,7 +86,8 @@ impl LineReader {
         }
     }
 
-    /// Takes the bytes up to the next LF, or to the text's end. After `Io` and `OutOfMemory` it is not asked again: what came of the line is lost.
+    /// Takes the bytes up to the next LF, or to the text's end, where that is seen. The reader is asked for nothing behind a line that was read
+    /// whole, nor behind its end. After `Io` and `OutOfMemory` it is not asked again: what came of the line is lost.
     pub fn next<R: InputDevice>(&mut self, input: &mut R) -> Result<(), LogErr>
         requires within { IsWithin self.old }
         requires over { IsOver (R.remaining input.old) self.old }
@@ -92,6 +95,9 @@ impl LineReader {
         ensures over { OnOk result (IsOver (R.remaining input.new) self.new) }
         ensures line { OnOk result (IfSome (to_come (R.remaining input.old) self.old) (λ all. (self.new.line.items ≡ first_line all)
             × (to_come (R.remaining input.new) self.new ≡ Some (after_line all)))) }
+        ensures asked { HasLine self.old → input.new ≡ input.old }
+        ensures ended { OnOk result (IfSome (to_come (R.remaining input.old) self.old) (λ all. IsLineText all → self.new.over ≡ true)) }
+        ensures stays { OnOk result (self.old.over ≡ true → self.new.over ≡ true) }
         ensures counted { OnOk result ((n : ℕ) → min (n + length (rest self.old)) (2 ^ 64 - 1) ≤ R.given_count input.old → 0 < length (rest self.old)
             → min (n + 1 + length (rest self.new)) (2 ^ 64 - 1) ≤ R.given_count input.new) }
         ensures devices { FailsWhere (IsErrOf result LogErr.Io) (change R.remaining R.failure_count input.old input.new) }
@@ -127,6 +133,8 @@ impl LineReader {
         ensures line { result ≡ Ok true → IfSome (to_come (R.remaining input.old) self.old) (λ all. (0 < length all) × (self.new.line.items ≡ first_line all)
             × (to_come (R.remaining input.new) self.new ≡ Some (after_line all))) }
         ensures none { result ≡ Ok false → IfSome (to_come (R.remaining input.old) self.old) (λ all. all ≡ []) }
+        ensures asked { HasLine self.old → input.new ≡ input.old }
+        ensures ended { result ≡ Ok false → self.new.over ≡ true }
         ensures longer { IsErrOf result LogErr.AfterEnd → (ended ≡ true) × IfSome (to_come (R.remaining input.old) self.old) (λ all. 0 < length all) }
         ensures counted { result ≡ Ok true → (n : ℕ) → min (n + length (rest self.old)) (2 ^ 64 - 1) ≤ R.given_count input.old
             → min (n + 1 + length (rest self.new)) (2 ^ 64 - 1) ≤ R.given_count input.new }

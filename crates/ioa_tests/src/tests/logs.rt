@@ -102,8 +102,14 @@ const LIST: &str = "tick(5)\ntick(6)\nreset\n";
 
 const PRINTED: &str = "tick(5)\ntick(6)\nreset\nend: done after 3\n";
 
+/// The same list and its log without their last LF: behind the last line each is asked for more once.
+const OPEN_LIST: &str = "tick(5)\ntick(6)\nreset";
+
+const OPEN_LOG: &str =
+    "{\"act\":\"tick(5)\",\"who\":0}\n{\"act\":\"tick(6)\",\"who\":0}\n{\"act\":\"reset\",\"who\":1}\n{\"end\":\"done after 3\"}";
+
 /// Calls, what they read, and what they write.
-static CALLS: [(Call, &str, &str); 7] = [
+static CALLS: [(Call, &str, &str); 13] = [
     (Call::ReplayList, LIST, PRINTED),
     (Call::ReplayLog, TICKED, PRINTED),
     (Call::LogList, LIST, TICKED),
@@ -111,6 +117,12 @@ static CALLS: [(Call, &str, &str); 7] = [
     (Call::Entries, TICKED, ""),
     (Call::Read, TICKED, ""),
     (Call::Write, "", TICKED),
+    (Call::ReplayList, OPEN_LIST, PRINTED),
+    (Call::ReplayLog, OPEN_LOG, PRINTED),
+    (Call::LogList, OPEN_LIST, TICKED),
+    (Call::Monitor, OPEN_LOG, ""),
+    (Call::Entries, OPEN_LOG, ""),
+    (Call::Read, OPEN_LOG, ""),
 ];
 
 /// Makes the call of the program, or of the log.

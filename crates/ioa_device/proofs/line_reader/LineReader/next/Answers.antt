@@ -1,7 +1,7 @@
-use Rattle.std.proofs.Common.{◌≡◌, ◌++◌, ◌∷◌, ◌-◌, ◌+◌, ◌<◌, ◌≤◌, ◌^◌, min, ℕ, List, [], Ok, take, drop, length, refl, sym, ap, subst, ◌∙◌, arith, length-append}
-use Rattle.ioa_device.specs.LineReading.{IsLineText, rest, to_come}
+use Rattle.std.proofs.Common.{◌≡◌, true, inl, inr, ◌++◌, ◌∷◌, ◌-◌, ◌+◌, ◌<◌, ◌≤◌, ◌^◌, min, ℕ, List, [], Ok, take, drop, length, refl, sym, ap, subst, ◌∙◌, arith, length-append}
+use Rattle.ioa_device.specs.LineReading.{HasLine, IsLineText, rest, to_come}
 use Rattle.ioa_device.specs.declared.line_reader.LineReader.{LineReader}
-use Rattle.ioa_device.proofs.LineReading.{first_whole, joined, counted_line, counted_on, enough, further, length_rest, none_gathered, gathered_end, gathered_more, gathered_line, after_left}
+use Rattle.ioa_device.proofs.LineReading.{first_whole, joined, gathered_ended, of_each, counted_line, counted_on, enough, further, length_rest, none_gathered, gathered_end, gathered_more, gathered_line, after_left}
 use Rattle.ioa_device.proofs.line_reader.LineReader.next.Goals as goal
 
 pub loop-turn-init : goal.loop-turn-init
@@ -13,6 +13,8 @@ loop-turn-init g c = record {
   counted = λ n h. let z : length c.clear.new.self.items ≡ 0 = ap length c.clear.ensures.items in omega (arith, z, h);
   some = λ h. let z : length c.clear.new.self.items ≡ 0 = ap length c.clear.ensures.items in omega (arith, z, h);
   unended = subst IsLineText (sym c.clear.ensures.items) refl;
+  first = λ h. (refl, h, refl);
+  stays = λ h. h;
   taken = none_gathered (g.R.Read.remaining c.args.input.now) c.args.self.now
       (record { room = c.args.self.now.room; start = c.args.self.now.start; end = c.args.self.now.end; over = c.args.self.now.over; line = c.clear.new.self }) refl c.clear.ensures.items;
 }
@@ -69,6 +71,8 @@ loop-turn-preserved g c =
     let unended : IsLineText (rest r) = subst (λ xs. IsLineText xs) is (sym c.in_default.ensures.none) in
     let room : c.has_more.new.self.start < c.has_more.new.self.end = c.in_ok-has_more.ensures.room (ap Ok c.if-not-branch.false) in
     let long : length (rest c.has_more.new.self) ≡ c.has_more.new.self.end - c.has_more.new.self.start = length_rest c.has_more.new.self c.in_ok-has_more.ensures.within.0 in
+    let over_not : r.over ≡ true → ⊥ = λ over. let same = (c.in_ok-has_more.ensures.asked (inr over)).1 in omega (arith, room, ap (λ s. s.start) same, ap (λ s. s.end) same) in
+    let further_not : HasLine c.args.self.now → ⊥ = λ h. elim (c.loop-turn.invariant.first h).1 [ inl whole ↦ whole unended | inr over ↦ over_not over ] in
     record {
       within = c.in_ok-has_more.ensures.within;
       over = c.in_ok-has_more.ensures.over;
@@ -77,8 +81,21 @@ loop-turn-preserved g c =
           _ c.loop-turn.invariant.turns (omega arith) (omega (arith, long, room)) (ap length none) c.in_ok-has_more.ensures.counted;
       counted = λ n h. counted_on n (length r.line.items) (length (rest r)) _ (length (rest c.has_more.new.self)) (2 ^ 64 - 1) _ _ _ all (ap length none) (c.loop-turn.invariant.counted n h) c.in_ok-has_more.ensures.counted;
       some = λ h. omega (arith, all, c.loop-turn.invariant.some h);
+      first = λ h. absurd (further_not h);
+      stays = λ h. absurd (further_not (inr h));
       unended = subst (λ xs. IsLineText xs) (sym items) (joined r.line.items (rest r) c.loop-turn.invariant.unended unended);
       taken = gathered_more (to_come (g.R.Read.remaining c.args.input.now) c.args.self.now) (g.R.Read.remaining c.loop-turn.input) (to_come (g.R.Read.remaining c.has_more.new.input) c.has_more.new.self) r
           (record { room = r.room; start = r.end; end = r.end; over = r.over; line = c.extend_from_slice-in-loop-turn.new.self }) c.has_more.new.self.line.items c.loop-turn.invariant.taken none items
           (c.in_ok-has_more.ensures.some (ap Ok c.if-not-branch.false));
     }
+
+pub returns-in-Some-clause-ended : goal.returns-in-Some-clause-ended
+returns-in-Some-clause-ended g c =
+    let r : LineReader = c.loop-turn.self in
+    let is : take (r.end - r.start) (drop r.start c.deref.result.now) ≡ rest r = ap (λ xs. take (r.end - r.start) (drop r.start xs)) c.deref.ensures.value in
+    gathered_ended (to_come (g.R.Read.remaining c.args.input.now) c.args.self.now) (g.R.Read.remaining c.loop-turn.input) r c.in-Some.line.now c.in-Some.after.now (r.over ≡ true)
+    c.loop-turn.invariant.taken (sym is ∙ c.in-Some.ensures.parts)
+
+pub returns-then-not-branch-clause-ended : goal.returns-then-not-branch-clause-ended
+returns-then-not-branch-clause-ended g c =
+    of_each (to_come (g.R.Read.remaining c.args.input.now) c.args.self.now) IsLineText (c.has_more.new.self.over ≡ true) (c.in_ok-has_more.ensures.ended (ap Ok c.if-not-branch.true))
