@@ -2,7 +2,8 @@
 use Rattle.std.proofs.Common.{◌≡◌, ℕ, ◌-◌, ◌<◌, ◌≤◌, ◌⊎◌, inl, inr, List, [], ◌∷◌, ◌++◌, length, drop, refl, sym, ap, ◌∙◌, subst, arith, Result, Ok, Err, IfOk, IfErr, MatchResult, length-append, Bool, true, false, nat_lt}
 use Rattle.ioa_value.specs.declared.limits.TheConstants.{LIMITS}
 use Rattle.std.proofs.lemmas.Bool.Decides.{nat_tests}
-use Rattle.std.proofs.lemmas.List.{length-map}
+use Rattle.std.proofs.lemmas.List.{drop-map, length-map}
+use Rattle.std.proofs.Math.Path.{fun_ext}
 use Rattle.std.proofs.Math.Seq.{drop-append_seam}
 use Rattle.ioa_lex.specs.declared.refusal.Refusal.{Refusal}
 use Rattle.ioa_lex.specs.declared.refusal.Refusal.TheVariants as refusals
@@ -16,7 +17,7 @@ use Rattle.ioa_tree.specs.Tree.{SourceTree}
 use Rattle.ioa_tree.specs.Depth.{source_deep}
 use Rattle.ioa_tree.specs.View.{tree_of}
 use Rattle.ioa_grammar.specs.Grammar.{SpellsSource, IsDeadEnd}
-use Rattle.ioa_syntax.specs.Source.{AreTokens, IsSource, plain, line_of, BeginsTooDeep, IsRefused}
+use Rattle.ioa_syntax.specs.Source.{AreTokens, IsSource, plain, line_left, line_of, BeginsTooDeep, IsRefused}
 use Rattle.ioa_grammar.specs.Reading as reading
 use Rattle.ioa_grammar.specs.Reading.{source, line_at, ReturnsSource, Refuses}
 use Rattle.ioa_declarations.proofs.Whole as whole
@@ -57,6 +58,13 @@ line_split text end ts a b rest is apart second =
     let size : length rest ≡ length b = sym (ap length second) ∙ length-map b (λ t. kind_shown t.kind) in
     let gap : length (a ++ b) - length rest ≡ length a = omega (arith, length-append a b) in
     ap (λ ts. line_at ts end (length rest)) apart ∙ ap (λ n. reading.line_of end (drop n (a ++ b))) gap ∙ ap (reading.line_of end) (drop-append_seam a b) ∙ ap (λ e. reading.line_of e b) is ∙ line_head text b
+
+-- each line is that of the text's tokens
+lines_left : (text : List ℕ) (ts : List Token) (end left : ℕ) → end ≡ line_after text → line_at ts end left ≡ line_left text (placed ts) left
+lines_left text ts end left is =
+    let many : length (placed ts) ≡ length ts = length-map {B = Tok × ℕ} ts (λ t. (kind_shown t.kind, t.line)) in
+    let more : drop (length ts - left) (placed ts) ≡ placed (drop (length ts - left) ts) = drop-map (λ (t : Token). (kind_shown t.kind, t.line)) (length ts - left) ts in
+    ap (λ e. line_at ts e left) is ∙ line_head text (drop (length ts - left) ts) ∙ sym (ap (line_of text) more) ∙ sym (ap (λ n. line_of text (drop (n - left) (placed ts))) many)
 
 -- the tokens of a text are tokens that a text can hold
 written : (w : List ℕ) (t : Tok) → Writes w t → IsToken t
@@ -116,6 +124,15 @@ module _ (text : List ℕ) (ts : List Token) (end : ℕ) (lexed : Lexes text (pl
   pub parsed_found : (result : Result (List Declaration) Refusal) → ReturnsSource tree_of result read → IfOk result (λ s. (us : List (Tok × ℕ)) × Lexes text us × SpellsSource (tree_of s) (plain us))
   parsed_found (Ok s) h = (placed ts, lexed, subst (SpellsSource (tree_of s)) (sym (plain-placed ts)) (source_found LIMITS.depth (line_at ts end) (tokens_shown ts) (tree_of s) h).0)
   parsed_found (Err e) h = tt
+
+  -- whatever comes of the tokens is the answer
+  pub parsed_as_read : (result : Result (List Declaration) Refusal) → ReturnsSource tree_of result read → (us : List (Tok × ℕ)) → placed ts ≡ us
+      → ReturnsSource tree_of result (source LIMITS.depth (line_left text us) (plain us))
+  parsed_as_read result h us same =
+      let lines : line_at ts end ≡ line_left text (placed ts) = fun_ext (λ left. lines_left text ts end left last) in
+      let as_placed : read ≡ source LIMITS.depth (line_left text (placed ts)) (plain (placed ts)) =
+      ap (λ l. source LIMITS.depth l (tokens_shown ts)) lines ∙ ap (source LIMITS.depth (line_left text (placed ts))) (sym (plain-placed ts)) in
+      subst (λ (vs : List (Tok × ℕ)). ReturnsSource tree_of result (source LIMITS.depth (line_left text vs) (plain vs))) same (subst (ReturnsSource tree_of result) as_placed h)
 
   parsed_stuck : (line : ℕ) → read ≡ Err (refusals.Syntax line) → IsRefused text (refusals.Syntax line)
   parsed_stuck line h =

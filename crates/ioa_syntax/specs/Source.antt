@@ -1,5 +1,5 @@
 -- What a source is, and why a text is none.
-use Rattle.std.specs.Prelude.{◌≡◌, ℕ, ◌<◌, ◌≤◌, List, [], ◌∷◌, ◌++◌, length, map}
+use Rattle.std.specs.Prelude.{◌≡◌, ℕ, ◌<◌, ◌≤◌, List, [], ◌∷◌, ◌++◌, ◌-◌, drop, length, map}
 use Rattle.ioa_lex.specs.declared.refusal.Refusal.{Refusal}
 use Rattle.ioa_lex.specs.declared.refusal.Refusal.TheVariants as refusals
 use Rattle.ioa_value.specs.declared.limits.TheConstants.{LIMITS}
@@ -28,6 +28,10 @@ plain ts = map (λ t. t.0) ts
 abbrev pub line_of : List ℕ → List (Tok × ℕ) → ℕ
 line_of text [] = line_after text
 line_of text (t ∷ ts) = t.1
+
+-- the line of the token where so many are left, or of the end of the text
+abbrev pub line_left : List ℕ → List (Tok × ℕ) → ℕ → ℕ
+line_left text ts left = line_of text (drop (length ts - left) ts)
 
 -- No source begins with the text's tokens up to one on this line, or none ends with them on the last line.
 abbrev pub IsStuckOn : List ℕ → ℕ → Type 0

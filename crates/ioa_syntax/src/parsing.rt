@@ -7,7 +7,7 @@ ghost use Rattle.ioa_lex.specs.Lexing.{Lexes, StopsOn, line_after};
 ghost use Rattle.ioa_tree.specs.Tree.{SourceTree};
 ghost use Rattle.ioa_tree.specs.Depth.{source_deep};
 ghost use Rattle.ioa_grammar.specs.Grammar.{SpellsSource};
-ghost use Rattle.ioa_syntax.specs.Source.{AreTokens, plain, IsRefused};
+ghost use Rattle.ioa_syntax.specs.Source.{AreTokens, line_left, plain, IsRefused};
 ghost use Rattle.ioa_grammar.specs.Reading as spec;
 ghost use Rattle.ioa_grammar.specs.Reading.{ReturnsSource, line_at};
 ghost use Rattle.ioa_tree.specs.View.{tree_of};
@@ -35,6 +35,9 @@ pub fn parse(alloc: Global, text: &[u8]) -> Result<Source, Refusal>
 
     // What is spelled so, and not too deep, is read, unless memory runs out.
     ensures only { (ts : List (Tok × ℕ)) (t : SourceTree) → Lexes text.now ts → SpellsSource t (plain ts) → source_deep t ≤ LIMITS.depth → length text.now ≤ LIMITS.text → MatchResult result (λ s. tree_of s ≡ t) (λ e. e ≡ Refusal.OutOfMemory) }
+
+    // And in any case the answer is what comes of reading its tokens, unless memory runs out.
+    ensures as_read { (ts : List (Tok × ℕ)) → Lexes text.now ts → length text.now ≤ LIMITS.text → ReturnsSource tree_of result (spec.source LIMITS.depth (line_left text.now ts) (plain ts)) }
 {
     let tokens = lex(alloc, text)?;
     parse_tokens(alloc, &tokens, last_line(text))

@@ -15,6 +15,8 @@ automaton^A^ |  |  | E3 line 3^ | 1
 automaton A signature internal a transitions internal a pre ((( |  |  | E3 line 1^ | 1
 automaton A signature internal a transitions internal a pre &(@1048516 |  |  | E4 line 1^ | 1
 automaton A signature internal a transitions internal a pre &(@400000&true&)@400000 |  |  | E4 line 1^ | 1
+-- 400 tokens, of which the last is one too many
+type T = enum { &a#, @196&b }^} |  |  | E3 line 2^ | 1
 -- names of 64 and of 65 letters
 automaton &A@64& signature internal a transitions internal a composition One components A: &A@64 |  | end: done after 0^ |  | 0
 automaton B signature internal b transitions internal b^automaton &A@65& signature internal a transitions internal a |  |  | E2 line 2^ | 1

@@ -6,7 +6,7 @@ use Rattle.ioa_lex.specs.Tokens.{Tok, tokens_shown}
 use Rattle.ioa_lex.specs.Lexing.{Lexes, placed}
 use Rattle.ioa_grammar.specs.Grammar.{SpellsSource}
 use Rattle.ioa_syntax.specs.Source.{AreTokens, plain}
-use Rattle.ioa_syntax.proofs.Parsed.{short_of, lexed_tokens, parsed_found, parsed_refused, parsed_only, parsed_short}
+use Rattle.ioa_syntax.proofs.Parsed.{short_of, lexed_tokens, parsed_as_read, parsed_found, parsed_refused, parsed_only, parsed_short}
 use Rattle.ioa_syntax.proofs.parsing.parse.Goals as goal
 
 pub parse_tokens-requires : goal.parse_tokens-requires
@@ -41,3 +41,12 @@ returns-clause-only c = λ ts t lexes spelled deep small.
     let lexed : Lexes c.args.text.now (placed c.deref.result.now) = subst (λ (ts : List Token). Lexes c.args.text.now (placed ts)) (sym c.deref.ensures.value) c.in_ok-tokens.ensures.ok in
     let same : placed c.deref.result.now ≡ ts = subst (λ (us : List Token). placed us ≡ ts) (sym c.deref.ensures.value) (c.in_ok-tokens.ensures.only ts lexes small) in
     parsed_only c.args.text.now c.deref.result.now c.last_line.result lexed c.last_line.ensures small c.parse_tokens.result c.parse_tokens.ensures t (subst (λ (us : List (Tok × ℕ)). SpellsSource t (plain us)) (sym same) spelled) deep
+
+pub returns-in_err-tokens-clause-as_read : goal.returns-in_err-tokens-clause-as_read
+returns-in_err-tokens-clause-as_read c = λ ts lexes small. let memory = c.in_err-tokens.ensures.only ts lexes small in search rules
+
+pub returns-clause-as_read : goal.returns-clause-as_read
+returns-clause-as_read c = λ ts lexes small.
+    let lexed : Lexes c.args.text.now (placed c.deref.result.now) = subst (λ (ts : List Token). Lexes c.args.text.now (placed ts)) (sym c.deref.ensures.value) c.in_ok-tokens.ensures.ok in
+    let same : placed c.deref.result.now ≡ ts = subst (λ (us : List Token). placed us ≡ ts) (sym c.deref.ensures.value) (c.in_ok-tokens.ensures.only ts lexes small) in
+    parsed_as_read c.args.text.now c.deref.result.now c.last_line.result lexed c.last_line.ensures small c.parse_tokens.result c.parse_tokens.ensures ts same
