@@ -102,14 +102,8 @@ const LIST: &str = "tick(5)\ntick(6)\nreset\n";
 
 const PRINTED: &str = "tick(5)\ntick(6)\nreset\nend: done after 3\n";
 
-/// The same list and its log without their last LF: behind the last line each is asked for more once.
-const OPEN_LIST: &str = "tick(5)\ntick(6)\nreset";
-
-const OPEN_LOG: &str =
-    "{\"act\":\"tick(5)\",\"who\":0}\n{\"act\":\"tick(6)\",\"who\":0}\n{\"act\":\"reset\",\"who\":1}\n{\"end\":\"done after 3\"}";
-
 /// Calls, what they read, and what they write.
-static CALLS: [(Call, &str, &str); 13] = [
+static CALLS: [(Call, &str, &str); 7] = [
     (Call::ReplayList, LIST, PRINTED),
     (Call::ReplayLog, TICKED, PRINTED),
     (Call::LogList, LIST, TICKED),
@@ -117,6 +111,16 @@ static CALLS: [(Call, &str, &str); 13] = [
     (Call::Entries, TICKED, ""),
     (Call::Read, TICKED, ""),
     (Call::Write, "", TICKED),
+];
+
+/// The same list and its log without their last LF: behind the last line a reader is asked for more once.
+const OPEN_LIST: &str = "tick(5)\ntick(6)\nreset";
+
+const OPEN_LOG: &str =
+    "{\"act\":\"tick(5)\",\"who\":0}\n{\"act\":\"tick(6)\",\"who\":0}\n{\"act\":\"reset\",\"who\":1}\n{\"end\":\"done after 3\"}";
+
+/// Calls that read these, and what they write.
+static OPEN: [(Call, &str, &str); 6] = [
     (Call::ReplayList, OPEN_LIST, PRINTED),
     (Call::ReplayLog, OPEN_LOG, PRINTED),
     (Call::LogList, OPEN_LIST, TICKED),
@@ -386,5 +390,14 @@ fn calls_fail_with_their_devices(rt: HostRuntime) {
     for row in &CALLS {
         expect_full(&rt, failing(alloc, &setting, row, ErrorKind::Other));
         expect_kinds(&rt, alloc, &setting, row);
+    }
+}
+
+#[test]
+fn readers_are_asked_once_behind_their_end(rt: HostRuntime) {
+    let alloc = rt.alloc();
+    let setting = set_up(&rt, alloc, COUNTER, TICKED, &[]);
+    for row in &OPEN {
+        expect_enough(&rt, failing(alloc, &setting, row, ErrorKind::Other));
     }
 }
