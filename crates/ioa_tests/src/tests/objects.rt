@@ -1,6 +1,6 @@
 //! Objects: they are whole, and bytes of which one is another are no object or the one object of another program, which is performed.
 
-use crate::tests::made::{self, Got, expect_so};
+use crate::tests::made::{self, Got, expect_so, expect_text};
 use ioa_compile::Program;
 use ioa_device::Counted;
 use ioa_loader::read_object;
@@ -178,5 +178,26 @@ fn versions_are_needed(rt: HostRuntime) {
     for (source, version, other, wanted) in &VERSIONS {
         let is_so = is_refused(&rt, rt.alloc(), source, *version, *other, *wanted);
         expect_so(&rt, is_so, source);
+    }
+}
+
+/// Why bytes are no object, and the text that tells it: with the byte, or with the part and the place, counted from 0.
+static TEXTS: [(ObjErr, &str); 8] = [
+    (ObjErr::Magic, "no object"),
+    (ObjErr::Version, "another version"),
+    (ObjErr::Truncated, "the object is cut"),
+    (ObjErr::Trailing, "bytes follow the object"),
+    (ObjErr::BadTable(37), "byte 37 is wrong"),
+    (ObjErr::BadCode(3, 1), "part 3 is wrong at place 1"),
+    (ObjErr::Clash, "components clash"),
+    (ObjErr::OutOfMemory, "memory"),
+];
+
+#[test]
+fn refusals_have_texts(rt: HostRuntime) {
+    let alloc = rt.alloc();
+    for (refusal, wanted) in &TEXTS {
+        let told = format!(in alloc; "{refusal}").got(&rt);
+        expect_text(&rt, told.as_str(), wanted);
     }
 }
