@@ -10,25 +10,31 @@ EXAMPLE := examples/counter
 all: $(PROGRAM)
 
 $(PROGRAM): crates.txt $(wildcard crates/*/src/*.rt crates/*/src/*/*.rt)
+	@tools/kit
 	cd crates/ioac_program && rt run -- replay $(CURDIR)/$(EXAMPLE)/counter.ioa < stdin
 
 # Shows the main job on an example. Until `make` has run, the program is tried without its proofs.
 demo:
+	@[ -x $(PROGRAM) ] || tools/kit
 	@sh examples/demo.sh $(PROGRAM)
 
-# The whole gate. It leaves no new file in the checkout.
+# The whole gate. It leaves no new file in the checkout. Its verdict is of one kit, which is told first and last; of another one with KIT=any.
 test:
+	@tools/kit --gate
 	@FILES=$$(sh examples/files.sh) && export FILES && tools/planted --texts && tools/believed && RT_JOBS=$${RT_JOBS:-$$(tools/lanes)} rt ci && sh examples/alone.sh $(PROGRAM) && sh examples/threads.sh $(PROGRAM) && \
 	  sh examples/objects.sh $(PROGRAM) && sh examples/logs.sh $(PROGRAM) && \
 	  sh examples/library.sh $(PROGRAM) && tools/pages $(PROGRAM) && tools/manual $(PROGRAM) && sh examples/run.sh $(PROGRAM)
+	@tools/kit --gate
 
 # Tries the planted bugs, over what checks kept: those of all crates, or of CRATES.
 planted:
+	@tools/kit
 	@tools/planted $(CRATES)
 
 # What no proof reaches, tried on the program that stands, and of memory on the calls below it, too: memory that is refused, at each request in turn,
 # devices that fail, and bytes of strangers. Wants `cc`.
 hostile: all
+	@tools/kit
 	@tools/refused $(PROGRAM)
 	@cd crates/ioa_tests && rt test -- calls_answer
 	@tools/refused_calls crates/ioa_tests/out/ioa_tests_tests
