@@ -21,6 +21,7 @@ demo:
 # The whole gate. It leaves no new file in the checkout. Its verdict is of one kit, which is told first and last; of another one with KIT=any.
 test:
 	@tools/kit --gate
+	@tools/pages --texts
 	@FILES=$$(sh examples/files.sh) && export FILES && tools/planted --texts && tools/believed && RT_JOBS=$${RT_JOBS:-$$(tools/lanes)} rt ci && sh examples/alone.sh $(PROGRAM) && sh examples/threads.sh $(PROGRAM) && \
 	  sh examples/objects.sh $(PROGRAM) && sh examples/logs.sh $(PROGRAM) && \
 	  sh examples/library.sh $(PROGRAM) && tools/pages $(PROGRAM) && tools/manual $(PROGRAM) && sh examples/run.sh $(PROGRAM)
