@@ -36,6 +36,7 @@ planted:
 # devices that fail, and bytes of strangers. Wants `cc`.
 hostile: all
 	@tools/kit
+	@tools/refused_tests
 	@tools/refused $(PROGRAM)
 	@cd crates/ioa_tests && rt test -- calls_answer
 	@tools/refused_calls crates/ioa_tests/out/ioa_tests_tests
