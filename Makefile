@@ -4,7 +4,7 @@ PREFIX ?= /usr/local
 PROGRAM := crates/ioac_program/out/ioac_program
 EXAMPLE := examples/counter
 
-.PHONY: all demo test planted hostile examples pictures bench install clean
+.PHONY: all demo quick check test planted hostile examples pictures bench install clean
 
 # Proves and builds the program.
 all: $(PROGRAM)
@@ -18,11 +18,22 @@ demo:
 	@[ -x $(PROGRAM) ] || tools/kit
 	@sh examples/demo.sh $(PROGRAM)
 
+# Tries all that runs, on the program without its proofs: in minutes.
+quick:
+	@tools/kit
+	@tools/quick
+
+# Proves a crate, CRATE, and those above it as far as a change of it can reach, and runs the tests that name it. What it stated before is what it did at the commit BASE.
+check:
+	@tools/kit
+	@tools/check $(CRATE) $(BASE)
+
 # The whole gate. It leaves no new file in the checkout. Its verdict is of one kit, which is told first and last; of another one with KIT=any.
 test:
 	@tools/kit --gate
 	@tools/pages --texts
-	@FILES=$$(sh examples/files.sh) && export FILES && tools/planted --texts && tools/believed && RT_JOBS=$${RT_JOBS:-$$(tools/lanes)} rt ci && sh examples/alone.sh $(PROGRAM) && sh examples/threads.sh $(PROGRAM) && \
+	@FILES=$$(sh examples/files.sh) && export FILES && RT_JOBS=$${RT_JOBS:-$$(tools/lanes)} && export RT_JOBS && tools/planted --texts && tools/believed && tools/planted_tests && \
+	  tools/planted --gate -- rt ci && sh examples/alone.sh $(PROGRAM) && sh examples/threads.sh $(PROGRAM) && \
 	  sh examples/objects.sh $(PROGRAM) && sh examples/logs.sh $(PROGRAM) && \
 	  sh examples/library.sh $(PROGRAM) && tools/pages $(PROGRAM) && tools/manual $(PROGRAM) && sh examples/run.sh $(PROGRAM)
 	@tools/kit --gate
