@@ -35,7 +35,6 @@ use ioa_compose::compose;
 use ioa_device::Counted;
 use ioa_replay::replay_list;
 use ioa_syntax::parse;
-use std::io::Read;
 use std::process::ExitCode;
 use std::{env, fs};
 
@@ -48,9 +47,8 @@ fn main(rt: HostRuntime) -> ExitCode {
 
 /// Replays the list in the source that the first word names; `None` where something is refused.
 fn replayed(rt: &HostRuntime) -> Option<()> {
-    let words = env::args(rt).ok()?.collect(rt.alloc()).ok()?;
-    let mut text = Vec::new(rt.alloc());
-    fs::open(rt, words.get(1)?.as_str()).ok()?.read_to_end(&mut text).ok()?;
+    let words: Vec<String> = env::args(rt).ok()?.collect(rt.alloc()).ok()?;
+    let text = fs::read(rt, words.get(1)?.as_str()).ok()?;
     let source = parse(rt.alloc(), text.as_slice()).ok()?;
     let checked = check(rt.alloc(), source).ok()?;
     let composed = compose(rt.alloc(), &checked, None).ok()?;
