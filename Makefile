@@ -4,7 +4,7 @@ PREFIX ?= /usr/local
 PROGRAM := crates/ioac_program/out/ioac_program
 EXAMPLE := examples/counter
 
-.PHONY: all demo check test planted hostile examples pictures bench install clean
+.PHONY: all demo test planted hostile examples pictures bench install clean
 
 # Proves and builds the program.
 all: $(PROGRAM)
@@ -17,11 +17,6 @@ $(PROGRAM): crates.txt $(wildcard crates/*/src/*.rt crates/*/src/*/*.rt)
 demo:
 	@[ -x $(PROGRAM) ] || tools/kit
 	@sh examples/demo.sh $(PROGRAM)
-
-# Proves a crate, CRATE, and those above it as far as a change of it can reach, and runs the tests that name it. What it stated before is what it did at the commit BASE.
-check:
-	@tools/kit
-	@tools/check $(CRATE) $(BASE)
 
 # The whole gate. It leaves no new file in the checkout. Its verdict is of one kit, which is told first and last; of another one with KIT=any.
 test:

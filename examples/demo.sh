@@ -2,7 +2,7 @@
 # Shows the main job on an example: examples/demo.sh PROGRAM
 #
 # Where the program stands, it replays a list of actions on the counter. Until `make` has proved and built it, a small program does the same by the same
-# crates, without the rest of the command line: it is put together here, read and compiled without proofs, in about a minute; what is being done is told on
+# crates, without the rest of the command line: it is put together here, read and compiled without proofs, which takes some 80 seconds of processors; what is being done is told on
 # standard error meanwhile.
 set -u
 program=$1
